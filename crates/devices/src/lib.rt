@@ -1,0 +1,4 @@
+// Slot devices: what every device keeps.
+pub mod device;
+
+pub use device::SlotDevice;
