@@ -1,12 +1,13 @@
 -- The product modulo a polynomial, by long division, is the one by doubling and adding; so its laws hold.
 use mathlib.Core.Path.{_≡_, refl, sym, ap, _∙_, subst}
 use Prim.Native.Nat.{ℕ, zero, suc, _+_, _-_, _*_, _/_, _%_, _^_, _<_, _≤_}
-use native.Mathlib.Nat.{lt-of-lt-of-le, suc-add, div-div-eq-div-mul, div-one, mod-lt, add-zero, zero-add, add-suc, mul-comm, pow-suc, zero-mul, one-mul, mul-one, mul-assoc, add-mul, mod-eq-of-lt, div-eq-of-lt, mul-div-mul-right}
+use native.Mathlib.Nat.{lt-of-lt-of-le, suc-add, div-div-eq-div-mul, div-one, mod-lt, add-zero, zero-add, add-suc, mul-comm, pow-suc, zero-mul, one-mul, mul-one, mul-assoc, add-mul, mod-eq-of-lt, div-eq-of-lt, mul-div-mul-right, mul-add-div-right, mul-add-mod-self-right, mul-le-mul-right, le-of-suc-le-suc}
 use native.Mathlib.Omega.{arith}
 use lib.Bits.{bitXor, xor-assoc, xor-self, xor-zero-r, xor-zero-l, xor-comm, xor-lt, xor-block, xor-mod, xor-shr, xor-shifted}
-use lib.Pow.{pow-pos, pow-mono, pow-lt, pow-add, shl-lt, split}
+use lib.Pow.{high, pow-pos, pow-mono, pow-lt, pow-add, shl-lt, split}
 use Rattle.std.proofs.shelf.Bits.{shr-below}
 use Rattle.base.specs.Polynomials.{scaled, coefficient, carryless, remainder, times, power, Ring}
+use Rattle.base.proofs.Strings.{xor-twice}
 use Rattle.base.proofs.Doubling as doubling
 use Rattle.base.proofs.Doubling.{swap, scaled-sum, scaled-bit-sum, twice, mulBits, mul}
 
@@ -40,6 +41,56 @@ module _ (w p : ℕ) where
   remainder-down (suc k) n c h =
       let l : c < 2 ^ (w + (k + n)) = lt-of-lt-of-le h (pow-mono (omega arith)) in
       ap (λ (x : ℕ). remainder w p x c) (suc-add k n) ∙ remainder-less (k + n) c l ∙ remainder-down k n c h
+
+-- ---- the remainder differs by a multiple of the modulus
+
+carryless-same : (n a b c : ℕ) → ((i : ℕ) → i < n → coefficient i a ≡ coefficient i b) → carryless n a c ≡ carryless n b c
+unfolding carryless
+carryless-same zero a b c h = refl
+carryless-same (suc n) a b c h =
+    ap (λ (x : ℕ). bitXor x (scaled (coefficient n a) (c * 2 ^ n))) (carryless-same n a b c (λ i l. h i (omega arith)))
+    ∙ ap (λ (x : ℕ). bitXor (carryless n b c) (scaled x (c * 2 ^ n))) (h n (omega arith))
+
+-- what stands above a coefficient does not touch it
+low-coefficient : (n h s i : ℕ) → i < n → coefficient i (h * 2 ^ n + s) ≡ coefficient i s
+low-coefficient n h s i l =
+    let e : 2 ^ n ≡ 2 ^ (n - suc i) * 2 * 2 ^ i =
+      ap (λ (x : ℕ). 2 ^ x) (omega arith) ∙ pow-add 2 (suc (n - suc i)) i ∙ ap (λ (x : ℕ). x * 2 ^ i) (pow-suc 2 (n - suc i)) in
+    let f : h * 2 ^ n ≡ h * 2 ^ (n - suc i) * 2 * 2 ^ i =
+      ap (λ (x : ℕ). h * x) e ∙ sym (mul-assoc h (2 ^ (n - suc i) * 2) (2 ^ i)) ∙ ap (λ (x : ℕ). x * 2 ^ i) (sym (mul-assoc h (2 ^ (n - suc i)) 2)) in
+    ap (λ (x : ℕ). (x + s) / 2 ^ i % 2) f
+    ∙ ap (λ (x : ℕ). x % 2) (mul-add-div-right (pow-pos i) (h * 2 ^ (n - suc i) * 2) s)
+    ∙ mul-add-mod-self-right (h * 2 ^ (n - suc i)) 2 (s / 2 ^ i)
+
+module _ (w p : ℕ) where
+
+  quotient-below : (n c : ℕ) → (s : ℕ) × ((s < 2 ^ n) × (c ≡ bitXor (carryless n s p) (remainder w p n c)))
+  unfolding carryless remainder
+  quotient-below zero c = (0, (omega arith, sym (xor-zero-l c)))
+  quotient-below (suc n) c =
+      let h : ℕ = coefficient (w + n) c in
+      let multiple : ℕ = scaled h (p * 2 ^ n) in
+      let rest : ℕ = bitXor c multiple in
+      let q = quotient-below n rest in
+      let s : ℕ = q .0 in
+      let small : s < 2 ^ n = q .1 .0 in
+      let bit : h < 2 = mod-lt (c / 2 ^ (w + n)) (omega arith) in
+      let top : coefficient n (h * 2 ^ n + s) ≡ h = ap (λ (x : ℕ). x % 2) (high h n small) ∙ mod-eq-of-lt bit in
+      let same : carryless n (h * 2 ^ n + s) p ≡ carryless n s p = carryless-same n (h * 2 ^ n + s) s p (λ i l. low-coefficient n h s i l) in
+      let all : carryless (suc n) (h * 2 ^ n + s) p ≡ bitXor (carryless n s p) multiple =
+        ap (λ (x : ℕ). bitXor x (scaled (coefficient n (h * 2 ^ n + s)) (p * 2 ^ n))) same ∙ ap (λ (x : ℕ). bitXor (carryless n s p) (scaled x (p * 2 ^ n))) top in
+      let bound : h * 2 ^ n + s < 2 ^ suc n = omega (arith, pow-suc 2 n, small, mul-le-mul-right (2 ^ n) (le-of-suc-le-suc bit), one-mul (2 ^ n)) in
+      ( h * 2 ^ n + s
+      , ( bound
+        , sym (xor-twice c multiple)
+          ∙ ap (λ (x : ℕ). bitXor x multiple) (q .1 .1)
+          ∙ xor-assoc (carryless n s p) (remainder w p n rest) multiple
+          ∙ ap (bitXor (carryless n s p)) (xor-comm (remainder w p n rest) multiple)
+          ∙ sym (xor-assoc (carryless n s p) multiple (remainder w p n rest))
+          ∙ ap (λ (x : ℕ). bitXor x (remainder w p n rest)) (sym all) ) )
+
+  pub quotient : (n c : ℕ) → (s : ℕ) × (c ≡ bitXor (carryless n s p) (remainder w p n c))
+  quotient n c = let q = quotient-below n c in (q .0, q .1 .1)
 
 -- the top term cancels against that of the modulus
 cancelled : (k h l r : ℕ) → h < 2 → l < 2 ^ k → r < 2 ^ k → bitXor (h * 2 ^ k + l) (scaled h (1 * 2 ^ k + r)) ≡ bitXor l (scaled h r)
