@@ -1,1 +1,3 @@
 pub mod Keys
+pub mod Words
+pub mod Speck
