@@ -189,7 +189,7 @@ unfolding speckBack
 behind k b = block-of _
 
 -- the two halves of a block, written one after the other
-pub halves : (b x y : List ℕ) (s : ℕ × ℕ) → length b ≡ 16 → x ≡ bytes 8 (s .1) → y ≡ bytes 8 (s .0) → putMid 8 8 (x ++ postOf 0 8 b) y ≡ blockOf s
+halves : (b x y : List ℕ) (s : ℕ × ℕ) → length b ≡ 16 → x ≡ bytes 8 (s .1) → y ≡ bytes 8 (s .0) → putMid 8 8 (x ++ postOf 0 8 b) y ≡ blockOf s
 unfolding blockOf
 halves b x y s l e f =
     let lx : length x ≡ 8 = ap length e ∙ bytes-long 8 (s .1) in
@@ -199,3 +199,12 @@ halves b x y s l e f =
     ∙ ap (λ (q : List ℕ). x ++ (y ++ q)) z
     ∙ ap (λ (q : List ℕ). x ++ q) (append-nil y)
     ∙ ap (λ (q : List ℕ). q ++ y) e ∙ ap (λ (q : List ℕ). bytes 8 (s .1) ++ q) f
+
+-- a block read as words, run through the rounds, and written back
+pub through : (run : ℕ × ℕ → List ℕ → ℕ × ℕ) (block key keys x y : List ℕ) (a b : ℕ) (s : ℕ × ℕ) → length block ≡ 16
+  → a ≡ number (take 8 (drop 8 block)) → b ≡ number (take 8 block) → keys ≡ roundKeys key → s ≡ run (a, b) keys
+  → x ≡ bytes 8 (s .1) → y ≡ bytes 8 (s .0) → putMid 8 8 (x ++ postOf 0 8 block) y ≡ blockOf (run (wordsOf block) (roundKeys key))
+unfolding wordsOf
+through run block key keys x y a b s l ea eb ek es ex ey =
+    halves block x y s l ex ey
+    ∙ ap blockOf (es ∙ ap (λ (ks : List ℕ). run (a, b) ks) ek ∙ ap (λ (w : ℕ × ℕ). run w (roundKeys key)) (pair _ _ _ _ ea eb))

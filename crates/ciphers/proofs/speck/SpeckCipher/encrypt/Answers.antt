@@ -1,16 +1,10 @@
-use mathlib.Core.Path.{_≡_, _∙_, ap}
-use mathlib.Core.List.{List}
-use Prim.Native.Nat.{ℕ}
-use Rattle.ciphers.specs.Speck.{speckForward, rounds, wordsOf, blockOf, roundKeys}
-use Rattle.ciphers.proofs.SpeckUndoing.{halves}
-use Rattle.ciphers.proofs.SpeckRounds.{pair}
+use Rattle.ciphers.specs.Speck.{speckForward, rounds}
+use Rattle.ciphers.proofs.SpeckUndoing.{through}
 use Rattle.ciphers.proofs.speck.SpeckCipher.encrypt.Needs as need
 
 pub returns : need.returns
-unfolding speckForward wordsOf
+unfolding speckForward
 returns c =
-    let w : (c .read-word-a .result, c .read-word-b .result) ≡ wordsOf (c .args .block .now) = pair _ _ _ _ (c .read-word-a .ensures) (c .read-word-b .ensures) in
-    halves (c .args .block .now) (c .write-word .last .s) (c .write-word-2 .last .s) (c .rounds-forward-a .result) (c .pre) (c .write-word .ensures) (c .write-word-2 .ensures)
-    ∙ ap blockOf (c .rounds-forward-a .ensures
-      ∙ ap (λ (ks : List ℕ). rounds (c .read-word-a .result, c .read-word-b .result) ks) (c .args .self .now .made .2)
-      ∙ ap (λ (s : ℕ × ℕ). rounds s (roundKeys (c .args .self .now .key))) w)
+    through rounds (c .args .block .now) (c .args .self .now .key) (c .args .self .now .keys) (c .write-word .last .s) (c .write-word-2 .last .s)
+      (c .read-word-a .result) (c .read-word-b .result) (c .rounds-forward-a .result) (c .pre)
+      (c .read-word-a .ensures) (c .read-word-b .ensures) (c .args .self .now .made .2) (c .rounds-forward-a .ensures) (c .write-word .ensures) (c .write-word-2 .ensures)
