@@ -52,20 +52,19 @@ pub scaled-bit-sum : (a b x : ℕ) → scaled (bitXor a b % 2) x ≡ bitXor (sca
 scaled-bit-sum a b x = ap (λ (d : ℕ). scaled d x) (xor-mod a b 1) ∙ bits-sum (a % 2) (b % 2) x (mod-lt a two) (mod-lt b two)
 
 module _ (v q : ℕ) where
-
   -- ---- doubling is linear
 
   pub double-sum : (a b : ℕ) → bitXor a b * 2 ≡ bitXor (a * 2) (b * 2)
   double-sum a b =
       sym (ap (λ (x : ℕ). bitXor x (b * 2)) (sym (add-zero (a * 2))) ∙ ap (bitXor (a * 2 + 0)) (sym (add-zero (b * 2)))
-        ∙ xor-block 1 a b 0 0 (omega arith) (omega arith) ∙ add-zero _)
+      ∙ xor-block 1 a b 0 0 (omega arith) (omega arith) ∙ add-zero _)
 
   pub twice-sum : (a b : ℕ) → twice v q (bitXor a b) ≡ bitXor (twice v q a) (twice v q b)
   unfolding twice
   twice-sum a b =
       let p : (bitXor a b * 2) % 2 ^ suc v ≡ bitXor ((a * 2) % 2 ^ suc v) ((b * 2) % 2 ^ suc v) = ap (λ (x : ℕ). x % 2 ^ suc v) (double-sum a b) ∙ xor-mod (a * 2) (b * 2) (suc v) in
       let r : scaled (bitXor a b / 2 ^ v % 2) q ≡ bitXor (scaled (a / 2 ^ v % 2) q) (scaled (b / 2 ^ v % 2) q) =
-        ap (λ (x : ℕ). scaled (x % 2) q) (xor-shr a b v) ∙ scaled-bit-sum (a / 2 ^ v) (b / 2 ^ v) q in
+      ap (λ (x : ℕ). scaled (x % 2) q) (xor-shr a b v) ∙ scaled-bit-sum (a / 2 ^ v) (b / 2 ^ v) q in
       ap (λ (x : ℕ). bitXor x (scaled (bitXor a b / 2 ^ v % 2) q)) p ∙ ap (bitXor (bitXor ((a * 2) % 2 ^ suc v) ((b * 2) % 2 ^ suc v))) r
       ∙ swap ((a * 2) % 2 ^ suc v) ((b * 2) % 2 ^ suc v) (scaled (a / 2 ^ v % 2) q) (scaled (b / 2 ^ v % 2) q)
 

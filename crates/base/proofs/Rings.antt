@@ -12,15 +12,14 @@ use Rattle.base.proofs.Doubling as doubling
 use Rattle.base.proofs.Doubling.{swap, scaled-sum, scaled-bit-sum, twice, mulBits, mul}
 
 module _ (w p : ℕ) where
-
   -- the remainder is additive
   pub remainder-sum : (n c d : ℕ) → remainder w p n (bitXor c d) ≡ bitXor (remainder w p n c) (remainder w p n d)
   unfolding remainder
   remainder-sum zero c d = refl
   remainder-sum (suc n) c d =
       ap (remainder w p n)
-        (ap (bitXor (bitXor c d)) (ap (λ (x : ℕ). scaled (x % 2) (p * 2 ^ n)) (xor-shr c d (w + n)) ∙ scaled-bit-sum (c / 2 ^ (w + n)) (d / 2 ^ (w + n)) (p * 2 ^ n))
-        ∙ swap c d (scaled (coefficient (w + n) c) (p * 2 ^ n)) (scaled (coefficient (w + n) d) (p * 2 ^ n)))
+      (ap (bitXor (bitXor c d)) (ap (λ (x : ℕ). scaled (x % 2) (p * 2 ^ n)) (xor-shr c d (w + n)) ∙ scaled-bit-sum (c / 2 ^ (w + n)) (d / 2 ^ (w + n)) (p * 2 ^ n))
+      ∙ swap c d (scaled (coefficient (w + n) c) (p * 2 ^ n)) (scaled (coefficient (w + n) d) (p * 2 ^ n)))
       ∙ remainder-sum n (bitXor c (scaled (coefficient (w + n) c) (p * 2 ^ n))) (bitXor d (scaled (coefficient (w + n) d) (p * 2 ^ n)))
 
   -- terms that are not there need no cancelling
@@ -55,15 +54,14 @@ carryless-same (suc n) a b c h =
 low-coefficient : (n h s i : ℕ) → i < n → coefficient i (h * 2 ^ n + s) ≡ coefficient i s
 low-coefficient n h s i l =
     let e : 2 ^ n ≡ 2 ^ (n - suc i) * 2 * 2 ^ i =
-      ap (λ (x : ℕ). 2 ^ x) (omega arith) ∙ pow-add 2 (suc (n - suc i)) i ∙ ap (λ (x : ℕ). x * 2 ^ i) (pow-suc 2 (n - suc i)) in
+    ap (λ (x : ℕ). 2 ^ x) (omega arith) ∙ pow-add 2 (suc (n - suc i)) i ∙ ap (λ (x : ℕ). x * 2 ^ i) (pow-suc 2 (n - suc i)) in
     let f : h * 2 ^ n ≡ h * 2 ^ (n - suc i) * 2 * 2 ^ i =
-      ap (λ (x : ℕ). h * x) e ∙ sym (mul-assoc h (2 ^ (n - suc i) * 2) (2 ^ i)) ∙ ap (λ (x : ℕ). x * 2 ^ i) (sym (mul-assoc h (2 ^ (n - suc i)) 2)) in
+    ap (λ (x : ℕ). h * x) e ∙ sym (mul-assoc h (2 ^ (n - suc i) * 2) (2 ^ i)) ∙ ap (λ (x : ℕ). x * 2 ^ i) (sym (mul-assoc h (2 ^ (n - suc i)) 2)) in
     ap (λ (x : ℕ). (x + s) / 2 ^ i % 2) f
     ∙ ap (λ (x : ℕ). x % 2) (mul-add-div-right (pow-pos i) (h * 2 ^ (n - suc i) * 2) s)
     ∙ mul-add-mod-self-right (h * 2 ^ (n - suc i)) 2 (s / 2 ^ i)
 
 module _ (w p : ℕ) where
-
   quotient-below : (n c : ℕ) → (s : ℕ) × ((s < 2 ^ n) × (c ≡ bitXor (carryless n s p) (remainder w p n c)))
   unfolding carryless remainder
   quotient-below zero c = (0, (omega arith, sym (xor-zero-l c)))
@@ -78,16 +76,19 @@ module _ (w p : ℕ) where
       let top : coefficient n (h * 2 ^ n + s) ≡ h = ap (λ (x : ℕ). x % 2) (high h n small) ∙ mod-eq-of-lt bit in
       let same : carryless n (h * 2 ^ n + s) p ≡ carryless n s p = carryless-same n (h * 2 ^ n + s) s p (λ i l. low-coefficient n h s i l) in
       let all : carryless (suc n) (h * 2 ^ n + s) p ≡ bitXor (carryless n s p) multiple =
-        ap (λ (x : ℕ). bitXor x (scaled (coefficient n (h * 2 ^ n + s)) (p * 2 ^ n))) same ∙ ap (λ (x : ℕ). bitXor (carryless n s p) (scaled x (p * 2 ^ n))) top in
-      let bound : h * 2 ^ n + s < 2 ^ suc n = omega (arith, pow-suc 2 n, small, mul-le-mul-right (2 ^ n) (le-of-suc-le-suc bit), one-mul (2 ^ n)) in
-      ( h * 2 ^ n + s
-      , ( bound
-        , sym (xor-twice c multiple)
-          ∙ ap (λ (x : ℕ). bitXor x multiple) (q .1 .1)
-          ∙ xor-assoc (carryless n s p) (remainder w p n rest) multiple
-          ∙ ap (bitXor (carryless n s p)) (xor-comm (remainder w p n rest) multiple)
-          ∙ sym (xor-assoc (carryless n s p) multiple (remainder w p n rest))
-          ∙ ap (λ (x : ℕ). bitXor x (remainder w p n rest)) (sym all) ) )
+      ap (λ (x : ℕ). bitXor x (scaled (coefficient n (h * 2 ^ n + s)) (p * 2 ^ n))) same ∙ ap (λ (x : ℕ). bitXor (carryless n s p) (scaled x (p * 2 ^ n))) top in
+      let bound : h * 2 ^ n + s < 2 ^ suc n = omega (arith, pow-suc 2 n, small, mul-le-mul-right (2 ^ n) (le-of-suc-le-suc bit), one-mul (2 ^ n)) in (
+        h * 2 ^ n + s,
+        (
+          bound,
+          sym (xor-twice c multiple)
+              ∙ ap (λ (x : ℕ). bitXor x multiple) (q .1 .1)
+              ∙ xor-assoc (carryless n s p) (remainder w p n rest) multiple
+              ∙ ap (bitXor (carryless n s p)) (xor-comm (remainder w p n rest) multiple)
+              ∙ sym (xor-assoc (carryless n s p) multiple (remainder w p n rest))
+              ∙ ap (λ (x : ℕ). bitXor x (remainder w p n rest)) (sym all),
+        ),
+      )
 
   pub quotient : (n c : ℕ) → (s : ℕ) × (c ≡ bitXor (carryless n s p) (remainder w p n c))
   quotient n c = let q = quotient-below n c in (q .0, q .1 .1)
@@ -107,7 +108,6 @@ scaled-times zero x y = sym (zero-mul y)
 scaled-times (suc h) x y = refl
 
 module _ (v q : ℕ) (small : q < 2 ^ suc v) where
-
   -- the modulus, of degree v + 1
   abbrev modulus : ℕ
   modulus = 2 ^ suc v + q
@@ -133,8 +133,8 @@ module _ (v q : ℕ) (small : q < 2 ^ suc v) where
   reduced-lt : (n c : ℕ) → c < 2 ^ suc (suc v + n) → reduced n c < 2 ^ (suc v + n)
   reduced-lt n c h =
       subst (λ (x : ℕ). x < 2 ^ (suc v + n)) (sym (reduced-is n c h))
-        (xor-lt (suc v + n) (c % 2 ^ (suc v + n)) (scaled (c / 2 ^ (suc v + n)) (q * 2 ^ n)) (mod-lt c (pow-pos (suc v + n)))
-          (scaled-lt (suc v + n) (c / 2 ^ (suc v + n)) (q * 2 ^ n) (shl-lt (suc v) n small)))
+      (xor-lt (suc v + n) (c % 2 ^ (suc v + n)) (scaled (c / 2 ^ (suc v + n)) (q * 2 ^ n)) (mod-lt c (pow-pos (suc v + n)))
+      (scaled-lt (suc v + n) (c / 2 ^ (suc v + n)) (q * 2 ^ n) (shl-lt (suc v) n small)))
 
   remainder-lt : (n c : ℕ) → c < 2 ^ (suc v + n) → remainder (suc v) modulus n c < 2 ^ suc v
   unfolding remainder
@@ -211,7 +211,7 @@ module _ (v q : ℕ) (small : q < 2 ^ suc v) where
   remainder-carryless k zero a b e h = remainder-zero (suc v) modulus (suc v)
   remainder-carryless k (suc n) a b e h =
       let r : remainder (suc v) modulus (suc v) (b * 2 ^ n) ≡ doubled n b =
-        ap (λ (x : ℕ). remainder (suc v) modulus x (b * 2 ^ n)) (sym (omega (arith, e))) ∙ remainder-down (suc v) modulus (suc k) n (b * 2 ^ n) (shl-lt (suc v) n h) ∙ remainder-doubled n b h in
+      ap (λ (x : ℕ). remainder (suc v) modulus x (b * 2 ^ n)) (sym (omega (arith, e))) ∙ remainder-down (suc v) modulus (suc k) n (b * 2 ^ n) (shl-lt (suc v) n h) ∙ remainder-doubled n b h in
       remainder-sum (suc v) modulus (suc v) (carryless n a b) (scaled (coefficient n a) (b * 2 ^ n))
       ∙ ap (λ (x : ℕ). bitXor x (remainder (suc v) modulus (suc v) (scaled (coefficient n a) (b * 2 ^ n)))) (remainder-carryless (suc k) n a b (omega (arith, e)) h)
       ∙ ap (bitXor (mulBits v q n a b)) (remainder-scaled (suc v) modulus (suc v) (coefficient n a) (b * 2 ^ n) ∙ ap (scaled (coefficient n a)) r)
@@ -266,7 +266,13 @@ module _ (v q : ℕ) (small : q < 2 ^ suc v) where
 
   pub ring : Ring (suc v) modulus
   ring = record {
-      closed = times-lt; one = times-one; commutes = times-commutes; associates = times-associates; distributes = times-sum-right; powers-add = powers-add }
+    closed = times-lt;
+    one = times-one;
+    commutes = times-commutes;
+    associates = times-associates;
+    distributes = times-sum-right;
+    powers-add = powers-add;
+  }
 
 -- times z is one doubling
 bits-none : (v q n b : ℕ) → mulBits v q n 0 b ≡ 0

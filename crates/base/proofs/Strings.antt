@@ -14,17 +14,19 @@ use Rattle.base.specs.Bytes.{AllBytes, xorFront, zeros}
 -- ---- parts of byte strings are byte strings
 
 pub take-bytes : (n : ℕ) (xs : List ℕ) → AllBytes xs → AllBytes (take n xs)
-take-bytes n xs h i = elim (cases-lt i n)
-  [ inl l ↦ subst (λ (x : ℕ). x < 256) (sym (getD-take n xs i 0 l)) (h i)
-  | inr l ↦ subst (λ (x : ℕ). x < 256) (sym (getD-past (take n xs) i 0 (simp length-take (omega arith)))) (omega arith) ]
+take-bytes n xs h i = elim (cases-lt i n) [
+  | inl l ↦ subst (λ (x : ℕ). x < 256) (sym (getD-take n xs i 0 l)) (h i)
+  | inr l ↦ subst (λ (x : ℕ). x < 256) (sym (getD-past (take n xs) i 0 (simp length-take (omega arith)))) (omega arith)
+]
 
 pub drop-bytes : (n : ℕ) (xs : List ℕ) → AllBytes xs → AllBytes (drop n xs)
 drop-bytes n xs h i = subst (λ (x : ℕ). x < 256) (sym (getD-drop n xs i 0)) (h (n + i))
 
 pub append-bytes : (xs ys : List ℕ) → AllBytes xs → AllBytes ys → AllBytes (xs ++ ys)
-append-bytes xs ys h k i = elim (cases-lt i (length xs))
-  [ inl l ↦ subst (λ (x : ℕ). x < 256) (sym (getD-append-left xs ys 0 i l)) (h i)
-  | inr l ↦ subst (λ (x : ℕ). x < 256) (sym (getD-append-right xs ys (length xs) i 0 refl l)) (k (i - length xs)) ]
+append-bytes xs ys h k i = elim (cases-lt i (length xs)) [
+  | inl l ↦ subst (λ (x : ℕ). x < 256) (sym (getD-append-left xs ys 0 i l)) (h i)
+  | inr l ↦ subst (λ (x : ℕ). x < 256) (sym (getD-append-right xs ys (length xs) i 0 refl l)) (k (i - length xs))
+]
 
 pub zeros-bytes : (n : ℕ) → AllBytes (zeros n)
 zeros-bytes zero i = omega arith

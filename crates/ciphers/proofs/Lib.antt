@@ -1,3 +1,11 @@
+pub mod AesEntries
+pub mod AesField
+pub mod AesTables
+pub mod AesColumns
+pub mod AesSteps
+pub mod AesSchedule
+pub mod AesRounds
+pub mod AesLoops
 pub mod WordLaws
 pub mod SpeckRounds
 pub mod SpeckUndoing

@@ -119,27 +119,27 @@ half-long b l = (simp length-take (omega arith), simp (length-take, length-drop)
 
 words-fit : (b : List ℕ) → length b ≡ 16 → AllBytes b → Fit (wordsOf b)
 unfolding wordsOf
-words-fit b l h = record
-  { first = number-lt 8 (take 8 (drop 8 b)) (half-long b l .1) (take-bytes 8 (drop 8 b) (drop-bytes 8 b h))
-  ; second = number-lt 8 (take 8 b) (half-long b l .0) (take-bytes 8 b h)
-  }
+words-fit b l h = record {
+  first = number-lt 8 (take 8 (drop 8 b)) (half-long b l .1) (take-bytes 8 (drop 8 b) (drop-bytes 8 b h));
+  second = number-lt 8 (take 8 b) (half-long b l .0) (take-bytes 8 b h);
+}
 
 keys-fit : (key : List ℕ) → length key ≡ 16 → AllBytes key → All (λ k. k < 2 ^ 64) (roundKeys key)
 unfolding roundKeys
 keys-fit key l h =
     let f : ℕ → ℕ = λ i. scheduled (wordsOf key) i .1 in
     all-from-getD (λ k. k < 2 ^ 64) (map f (counting 0 32)) 0
-      (λ i g. let g′ : i < 32 = omega (arith, length-map-counting f 0 32) in
-        subst (λ (x : ℕ). x < 2 ^ 64) (sym (getD-map-counting f 0 32 i i 0 g′ (zero-add i)))
-          (scheduled-fits (wordsOf key) i (omega arith) (words-fit key l h) .second))
+    (λ i g. let g′ : i < 32 = omega (arith, length-map-counting f 0 32) in
+    subst (λ (x : ℕ). x < 2 ^ 64) (sym (getD-map-counting f 0 32 i i 0 g′ (zero-add i)))
+    (scheduled-fits (wordsOf key) i (omega arith) (words-fit key l h) .second))
 
 words-block : (s : ℕ × ℕ) → Fit s → wordsOf (blockOf s) ≡ s
 unfolding wordsOf blockOf
 words-block s f =
     let d : drop 8 (bytes 8 (s .1) ++ bytes 8 (s .0)) ≡ bytes 8 (s .0) = drop-at (bytes 8 (s .1)) (bytes 8 (s .0)) 8 (bytes-long 8 (s .1)) in
     pair _ _ (s .0) (s .1)
-      (ap number (ap (take 8) d ∙ take-all 8 (bytes 8 (s .0)) (omega (arith, bytes-long 8 (s .0)))) ∙ number-bytes 8 (s .0) (f .first))
-      (ap number (take-at (bytes 8 (s .1)) (bytes 8 (s .0)) 8 (bytes-long 8 (s .1))) ∙ number-bytes 8 (s .1) (f .second))
+    (ap number (ap (take 8) d ∙ take-all 8 (bytes 8 (s .0)) (omega (arith, bytes-long 8 (s .0)))) ∙ number-bytes 8 (s .0) (f .first))
+    (ap number (take-at (bytes 8 (s .1)) (bytes 8 (s .0)) 8 (bytes-long 8 (s .1))) ∙ number-bytes 8 (s .1) (f .second))
 
 block-words : (b : List ℕ) → Block b → blockOf (wordsOf b) ≡ b
 unfolding wordsOf blockOf
@@ -152,15 +152,14 @@ block-words b k =
 
 block-of : (s : ℕ × ℕ) → Block (blockOf s)
 unfolding blockOf
-block-of s = record
-  { long = length-append (bytes 8 (s .1)) (bytes 8 (s .0)) ∙ omega (arith, bytes-long 8 (s .0), bytes-long 8 (s .1))
-  ; fit = append-bytes (bytes 8 (s .1)) (bytes 8 (s .0)) (bytes-fit 8 (s .1)) (bytes-fit 8 (s .0))
-  }
+block-of s = record {
+  long = length-append (bytes 8 (s .1)) (bytes 8 (s .0)) ∙ omega (arith, bytes-long 8 (s .0), bytes-long 8 (s .1));
+  fit = append-bytes (bytes 8 (s .1)) (bytes 8 (s .0)) (bytes-fit 8 (s .1)) (bytes-fit 8 (s .0));
+}
 
 -- ---- the laws
 
 module _ (k : List ℕ) (key : Key 16 k) where
-
   schedule-fits : All (λ x. x < 2 ^ 64) (roundKeys k)
   schedule-fits = keys-fit k (key .long) (key .fit)
 
@@ -202,8 +201,8 @@ halves b x y s l e f =
 
 -- a block read as words, run through the rounds, and written back
 pub through : (run : ℕ × ℕ → List ℕ → ℕ × ℕ) (block key keys x y : List ℕ) (a b : ℕ) (s : ℕ × ℕ) → length block ≡ 16
-  → a ≡ number (take 8 (drop 8 block)) → b ≡ number (take 8 block) → keys ≡ roundKeys key → s ≡ run (a, b) keys
-  → x ≡ bytes 8 (s .1) → y ≡ bytes 8 (s .0) → putMid 8 8 (x ++ postOf 0 8 block) y ≡ blockOf (run (wordsOf block) (roundKeys key))
+    → a ≡ number (take 8 (drop 8 block)) → b ≡ number (take 8 block) → keys ≡ roundKeys key → s ≡ run (a, b) keys
+    → x ≡ bytes 8 (s .1) → y ≡ bytes 8 (s .0) → putMid 8 8 (x ++ postOf 0 8 block) y ≡ blockOf (run (wordsOf block) (roundKeys key))
 unfolding wordsOf
 through run block key keys x y a b s l ea eb ek es ex ey =
     halves block x y s l ex ey

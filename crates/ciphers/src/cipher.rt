@@ -17,16 +17,22 @@ pub trait BlockCipher: Sized {
 
     // a block under a key, forward and back
     ghost forward: { List ℕ → List ℕ → List ℕ };
+
     ghost back: { List ℕ → List ℕ → List ℕ };
 
     // the key of a cipher
     ghost keyOf: { Self → List ℕ };
 
     law stated: { KeyLength keyLength };
+
     law keyed: { (c : Self) → Key keyLength (keyOf c) };
+
     law undone: { (k b : List ℕ) → Key keyLength k → Block b → back k (forward k b) ≡ b };
+
     law redone: { (k b : List ℕ) → Key keyLength k → Block b → forward k (back k b) ≡ b };
+
     law ahead: { (k b : List ℕ) → Key keyLength k → Block b → Block (forward k b) };
+
     law behind: { (k b : List ℕ) → Key keyLength k → Block b → Block (back k b) };
 
     // KEY_LEN, as a value that contracts can speak of.

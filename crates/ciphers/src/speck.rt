@@ -85,8 +85,11 @@ pub impl BlockCipher for Speck128 as SpeckCipher {
     const KEY_LEN: usize = 16;
 
     ghost keyLength = { 16 };
+
     ghost forward = { speckForward };
+
     ghost back = { speckBack };
+
     ghost keyOf = { λ s. s .key };
 
     fn stated_key_len() -> usize {

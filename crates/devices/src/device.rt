@@ -12,10 +12,12 @@ use base::Refusal;
 pub trait SlotDevice {
     // what no call ever changes
     ghost Fixed: { Type 0 };
+
     ghost fixed: { Self → Fixed };
 
     // everything that a call may change
     ghost State: { Type 0 };
+
     ghost state: { Self → State };
 
     // the slots, the longest row, the units of each length and their total

@@ -27,7 +27,10 @@ pub fn respond(heap: Global, line: &[u8]) -> Result<Option<String>, AllocError> 
         return Ok(Some(String::from_str(heap, "error the line is not text")?));
     };
     let words = split(heap, text)?;
-    if words.is_empty() || text.starts_with('#') {
+    let Some(first) = words.first() else {
+        return Ok(None);
+    };
+    if first.starts_with('#') {
         return Ok(None);
     }
     match obey(heap, &words) {
@@ -66,7 +69,11 @@ fn turn(heap: Global, way: Way, cipher: &str, key: &str, block: &str) -> Result<
     }
 }
 
-fn turn_block<C: BlockCipher + Drop>(way: Way, key: &[u8], block: &mut [u8]) -> Result<(), Refusal> {
+fn turn_block<C: BlockCipher + Drop>(
+    way: Way,
+    key: &[u8],
+    block: &mut [u8],
+) -> Result<(), Refusal> {
     let cipher = C::new(key)?;
     if block.len() == BLOCK_LEN {
         match way {

@@ -17,7 +17,11 @@ fn digit_value(c: u8) -> Option<u8> {
 // The digit of the lowest four bits.
 fn digit(value: u8) -> char {
     let low = value % 16;
-    if low < 10 { (b'0' + low) as char } else { (b'a' + (low - 10)) as char }
+    if low < 10 {
+        (b'0' + low) as char
+    } else {
+        (b'a' + (low - 10)) as char
+    }
 }
 
 // The bytes that a word spells in hexadecimal; `-` is the empty string.

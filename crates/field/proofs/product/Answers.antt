@@ -17,18 +17,20 @@ pub loop-bit-again : need.loop-bit-again
 loop-bit-again c =
     let fits : c .loop-bit .multiple < 2 ^ 128 = c .loop-bit .inv .0 in
     let added : c .if-rest-eq1 .sum ≡ bitXor (c .loop-bit .sum) (scaled (c .loop-bit .rest % 2) (c .loop-bit .multiple)) =
-      elim (c .if-rest-eq1 .came)
-        [ then-rest-eq1 w ↦ w .sum-is ∙ sym (ap (λ (d : ℕ). bitXor (c .loop-bit .sum) (scaled d (c .loop-bit .multiple))) (w .if-rest-eq1 .taken))
-        | else-rest-eq1 w ↦ (let z : c .loop-bit .rest % 2 ≡ 0 = omega (arith, w .if-rest-eq1 .left) in
-            w .sum-is ∙ sym (ap (λ (d : ℕ). bitXor (c .loop-bit .sum) (scaled d (c .loop-bit .multiple))) z ∙ xor-zero-r (c .loop-bit .sum))) ] in
-    let n : suc (128 - (c .loop-bit .-bit + 1)) ≡ 128 - c .loop-bit .-bit = omega arith in
-    ( subst (λ (z : ℕ). z < 2 ^ 128) (sym (c .double-multiple .ensures)) (timesZ-lt (c .loop-bit .multiple) fits)
-    , ap (λ (z : ℕ). bitXor z (mulBits 127 135 (128 - (c .loop-bit .-bit + 1)) (c .loop-bit .rest / 2) (c .double-multiple .result))) added
-    ∙ ap (λ (z : ℕ). bitXor (bitXor (c .loop-bit .sum) (scaled (c .loop-bit .rest % 2) (c .loop-bit .multiple))) (mulBits 127 135 (128 - (c .loop-bit .-bit + 1)) (c .loop-bit .rest / 2) z))
-        (c .double-multiple .ensures ∙ timesZ-twice (c .loop-bit .multiple) fits)
-    ∙ turn 127 135 (128 - (c .loop-bit .-bit + 1)) (c .loop-bit .rest) (c .loop-bit .multiple) (c .loop-bit .sum)
-    ∙ ap (λ (z : ℕ). bitXor (c .loop-bit .sum) (mulBits 127 135 z (c .loop-bit .rest) (c .loop-bit .multiple))) n
-    ∙ c .loop-bit .inv .1 )
+    elim (c .if-rest-eq1 .came) [
+      | then-rest-eq1 w ↦ w .sum-is ∙ sym (ap (λ (d : ℕ). bitXor (c .loop-bit .sum) (scaled d (c .loop-bit .multiple))) (w .if-rest-eq1 .taken))
+      | else-rest-eq1 w ↦ (let z : c .loop-bit .rest % 2 ≡ 0 = omega (arith, w .if-rest-eq1 .left) in
+          w .sum-is ∙ sym (ap (λ (d : ℕ). bitXor (c .loop-bit .sum) (scaled d (c .loop-bit .multiple))) z ∙ xor-zero-r (c .loop-bit .sum)))
+    ] in
+    let n : suc (128 - (c .loop-bit .-bit + 1)) ≡ 128 - c .loop-bit .-bit = omega arith in (
+      subst (λ (z : ℕ). z < 2 ^ 128) (sym (c .double-multiple .ensures)) (timesZ-lt (c .loop-bit .multiple) fits),
+      ap (λ (z : ℕ). bitXor z (mulBits 127 135 (128 - (c .loop-bit .-bit + 1)) (c .loop-bit .rest / 2) (c .double-multiple .result))) added
+          ∙ ap (λ (z : ℕ). bitXor (bitXor (c .loop-bit .sum) (scaled (c .loop-bit .rest % 2) (c .loop-bit .multiple))) (mulBits 127 135 (128 - (c .loop-bit .-bit + 1)) (c .loop-bit .rest / 2) z))
+          (c .double-multiple .ensures ∙ timesZ-twice (c .loop-bit .multiple) fits)
+          ∙ turn 127 135 (128 - (c .loop-bit .-bit + 1)) (c .loop-bit .rest) (c .loop-bit .multiple) (c .loop-bit .sum)
+          ∙ ap (λ (z : ℕ). bitXor (c .loop-bit .sum) (mulBits 127 135 z (c .loop-bit .rest) (c .loop-bit .multiple))) n
+          ∙ c .loop-bit .inv .1,
+    )
 
 pub returns : need.returns
 unfolding mulBits

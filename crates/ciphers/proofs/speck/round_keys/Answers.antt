@@ -15,12 +15,13 @@ unfolding wordsOf
 loop-i-holds c = (pair _ _ _ _ (c .read-word .ensures) (c .read-word-2 .ensures) ∙ scheduled-none _, refl, λ j h. absurd (omega arith))
 
 pub loop-i-again : need.loop-i-again
-loop-i-again c =
-    ( scheduled-more (wordsOf (c .args .key .now)) (c .loop-i .words) (c .round-words .result) (c .loop-i .i) (c .loop-i .inv .0) (c .round-words .ensures)
-    , length-set _ _ _ ∙ c .loop-i .inv .1
-    , below-more _ _
+loop-i-again c = (
+  scheduled-more (wordsOf (c .args .key .now)) (c .loop-i .words) (c .round-words .result) (c .loop-i .i) (c .loop-i .inv .0) (c .round-words .ensures),
+  length-set _ _ _ ∙ c .loop-i .inv .1,
+  below-more _ _
       (λ k h. let ne : k ≢ c .loop-i .i = omega arith in rw getD-set-other (c .loop-i .inv .2 k h))
-      (let lt : c .loop-i .i < length (c .loop-i .keys) = search needs in rw getD-set-same (ap (λ p. p .1) (c .loop-i .inv .0))) )
+      (let lt : c .loop-i .i < length (c .loop-i .keys) = search needs in rw getD-set-same (ap (λ p. p .1) (c .loop-i .inv .0))),
+)
 
 pub returns : need.returns
 returns c = all-keys _ _ (c .loop-i .inv .1) (search needs)

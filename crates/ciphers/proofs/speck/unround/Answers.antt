@@ -14,5 +14,5 @@ returns c =
     let sum : bitXor (c .args .b) (c .args .a) < 2 ^ 64 = xor-lt 64 (c .args .b) (c .args .a) (search needs) (search needs) in
     let b : c .rotate-right-old-b .result ≡ unroundB (c .args .a) (c .args .b) = c .rotate-right-old-b .ensures ∙ rotate-right 3 61 (bitXor (c .args .b) (c .args .a)) sum in
     let left : c .rotate-left .result ≡ rotatedLeft 8 (minus (bitXor (c .args .a) (c .args .key)) (c .rotate-right-old-b .result)) =
-      c .rotate-left .ensures ∙ rotate-left 56 8 (minus (bitXor (c .args .a) (c .args .key)) (c .rotate-right-old-b .result)) (minus-lt _ _) in
+    c .rotate-left .ensures ∙ rotate-left 56 8 (minus (bitXor (c .args .a) (c .args .key)) (c .rotate-right-old-b .result)) (minus-lt _ _) in
     pair _ _ _ _ (left ∙ ap (λ (x : ℕ). rotatedLeft 8 (minus (bitXor (c .args .a) (c .args .key)) x)) b) b
