@@ -1,6 +1,6 @@
 -- Numbers and their bytes, there and back, at every length.
 use mathlib.Core.Path.{_≡_, refl, sym, ap, _∙_, subst}
-use mathlib.Core.List.{List, [], _∷_, map}
+use mathlib.Core.List.{List, [], _∷_, map, reverse}
 use Prim.Native.Nat.{ℕ, zero, suc, _+_, _-_, _*_, _/_, _%_, _^_, _<_, _≤_}
 use native.Mathlib.Nat.{pow-suc, div-div-eq-div-mul}
 use native.Mathlib.Omega.{arith}
@@ -82,3 +82,24 @@ to-le-64 w = simp div-div-eq-div-mul
 pub to-le-128 : (w : ℕ) → (w % 256) ∷ (w / 256 % 256) ∷ (w / 65536 % 256) ∷ (w / 16777216 % 256) ∷ (w / 4294967296 % 256) ∷ (w / 1099511627776 % 256) ∷ (w / 281474976710656 % 256) ∷ (w / 72057594037927936 % 256) ∷ (w / 18446744073709551616 % 256) ∷ (w / 4722366482869645213696 % 256) ∷ (w / 1208925819614629174706176 % 256) ∷ (w / 309485009821345068724781056 % 256) ∷ (w / 79228162514264337593543950336 % 256) ∷ (w / 20282409603651670423947251286016 % 256) ∷ (w / 5192296858534827628530496329220096 % 256) ∷ (w / 1329227995784915872903807060280344576 % 256) ∷ [] ≡ bytes 16 w
 unfolding bytes
 to-le-128 w = simp div-div-eq-div-mul
+
+-- ---- highest byte first
+
+pub from-be-128 : (xs : List ℕ) → length xs ≡ 16 → getD xs 0 0 * 1329227995784915872903807060280344576 + getD xs 1 0 * 5192296858534827628530496329220096 + getD xs 2 0 * 20282409603651670423947251286016 + getD xs 3 0 * 79228162514264337593543950336 + getD xs 4 0 * 309485009821345068724781056 + getD xs 5 0 * 1208925819614629174706176 + getD xs 6 0 * 4722366482869645213696 + getD xs 7 0 * 18446744073709551616 + getD xs 8 0 * 72057594037927936 + getD xs 9 0 * 281474976710656 + getD xs 10 0 * 1099511627776 + getD xs 11 0 * 4294967296 + getD xs 12 0 * 16777216 + getD xs 13 0 * 65536 + getD xs 14 0 * 256 + getD xs 15 0 ≡ number (reverse xs)
+unfolding number
+from-be-128 xs l = omega (arith, ap (λ (z : List ℕ). number (reverse z)) (fill-by-all (λ k. getD xs k 0) xs 16 0 l (λ k h. refl)))
+
+pub to-be-128 : (w : ℕ) → (w / 1329227995784915872903807060280344576 % 256) ∷ (w / 5192296858534827628530496329220096 % 256) ∷ (w / 20282409603651670423947251286016 % 256) ∷ (w / 79228162514264337593543950336 % 256) ∷ (w / 309485009821345068724781056 % 256) ∷ (w / 1208925819614629174706176 % 256) ∷ (w / 4722366482869645213696 % 256) ∷ (w / 18446744073709551616 % 256) ∷ (w / 72057594037927936 % 256) ∷ (w / 281474976710656 % 256) ∷ (w / 1099511627776 % 256) ∷ (w / 4294967296 % 256) ∷ (w / 16777216 % 256) ∷ (w / 65536 % 256) ∷ (w / 256 % 256) ∷ (w % 256) ∷ [] ≡ reverse (bytes 16 w)
+unfolding bytes
+to-be-128 w = simp div-div-eq-div-mul
+
+-- ---- blocks as elements
+
+pub block-lt : (b : List ℕ) → Block b → number b < 2 ^ 128
+block-lt b k = number-lt 16 b (k .long) (k .fit)
+
+pub block-again : (b : List ℕ) → Block b → bytes 16 (number b) ≡ b
+block-again b k = bytes-number 16 b (k .long) (k .fit)
+
+pub element-again : (x : ℕ) → x < 2 ^ 128 → number (bytes 16 x) ≡ x
+element-again x h = number-bytes 16 x h

@@ -1,13 +1,13 @@
 -- The laws of byte strings.
 use mathlib.Core.Path.{_≡_, refl, sym, ap, _∙_, subst}
-use mathlib.Core.List.{List, [], _∷_, _++_}
+use mathlib.Core.List.{List, [], _∷_, _++_, reverse}
 use mathlib.Core.Logic.{_⊎_, inl, inr}
 use Prim.Native.Nat.{ℕ, zero, suc, _+_, _-_, _<_, _≤_}
 use native.Mathlib.Omega.{arith}
 use native.Mathlib.Numerals.{add-one}
 use lib.ListN.{length, take, drop, getD, set, length-take, replicate}
 use lib.Bits.{bitXor, xor-assoc, xor-self, xor-zero-r, xor-lt}
-use Rattle.std.proofs.shelf.Lists.{getD-take, getD-drop, getD-past, getD-append-left, getD-append-right}
+use Rattle.std.proofs.shelf.Lists.{getD-take, getD-drop, getD-past, getD-append-left, getD-append-right, getD-reverse, length-reverse}
 use Rattle.std.proofs.shelf.Tests.{cases-lt}
 use Rattle.base.specs.Bytes.{AllBytes, xorFront, zeros}
 
@@ -80,3 +80,20 @@ step (suc i) (x ∷ xs) (y ∷ ys) h k = ap (λ (z : List ℕ). bitXor x y ∷ z
 pub front-more : (xs ys a : List ℕ) (i : ℕ) → a ≡ xorFront xs (take i ys) → i < length xs → i < length ys →
     set a i (bitXor (getD a i 0) (getD ys i 0)) ≡ xorFront xs (take (i + 1) ys)
 front-more xs ys a i e h k = ap (λ (z : List ℕ). set z i (bitXor (getD z i 0) (getD ys i 0))) e ∙ step i xs ys h k ∙ ap (λ (n : ℕ). xorFront xs (take n ys)) (sym (add-one i))
+
+-- zeros added change nothing
+pub front-zeros : (xs ys : List ℕ) (k : ℕ) → xorFront xs (ys ++ zeros k) ≡ xorFront xs ys
+front-zeros [] ys k = refl
+front-zeros (x ∷ xs) [] zero = refl
+front-zeros (x ∷ xs) [] (suc k) = ap (λ (z : ℕ). z ∷ xorFront xs (zeros k)) (xor-zero-r x) ∙ ap (λ (z : List ℕ). x ∷ z) (front-zeros xs [] k ∙ front-none xs)
+front-zeros (x ∷ xs) (y ∷ ys) k = ap (λ (z : List ℕ). bitXor x y ∷ z) (front-zeros xs ys k)
+
+pub cons-bytes : (x : ℕ) (xs : List ℕ) → x < 256 → AllBytes xs → AllBytes (x ∷ xs)
+cons-bytes x xs h k zero = h
+cons-bytes x xs h k (suc i) = k i
+
+pub reverse-bytes : (xs : List ℕ) → AllBytes xs → AllBytes (reverse xs)
+reverse-bytes xs h i = elim (cases-lt i (length xs)) [
+  | inl l ↦ subst (λ (x : ℕ). x < 256) (sym (getD-reverse xs i 0 l)) (h (length xs - 1 - i))
+  | inr l ↦ subst (λ (x : ℕ). x < 256) (sym (getD-past (reverse xs) i 0 (simp length-reverse (omega arith)))) (omega arith)
+]

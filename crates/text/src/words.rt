@@ -1,14 +1,26 @@
 use crate::fault::Fault;
 use crate::fault::FaultFromAlloc;
-use std::alloc::AllocError;
+use crate::fault::FaultFromRefused;
 use std::alloc::Global;
 use std::io;
 use std::io::BufRead;
 
-// The words of a line.
-pub fn split<'a>(heap: Global, line: &'a str) -> Result<Vec<&'a str>, AllocError> {
+// Reads the next line into `line`; false at the end of the input.
+pub fn read_line<R: BufRead>(input: &mut R, line: &mut Vec<u8>) -> io::Result<bool> {
+    line.clear();
+    Ok(input.read_until(b'\n', line)? > 0)
+}
+
+// The words of a line: none where it is empty or a comment.
+pub fn words_of<'a>(heap: Global, line: &'a [u8]) -> Result<Vec<&'a str>, Fault> {
+    let Ok(text) = std::str::from_utf8(line) else {
+        return Err(Fault::Line("the line is not text"));
+    };
     let mut words = Vec::new(heap);
-    for word in line.split_whitespace() {
+    for word in text.split_whitespace() {
+        if words.is_empty() && word.starts_with('#') {
+            break;
+        }
         words.push(word)?;
     }
     Ok(words)
@@ -25,10 +37,4 @@ pub fn number(word: &str) -> Result<usize, Fault> {
         Ok(n) => Ok(n),
         Err(_) => Err(Fault::Line("not a number that can be held")),
     }
-}
-
-// Reads the next line into `line`; false at the end of the input.
-pub fn read_line<R: BufRead>(input: &mut R, line: &mut Vec<u8>) -> io::Result<bool> {
-    line.clear();
-    Ok(input.read_until(b'\n', line)? > 0)
 }

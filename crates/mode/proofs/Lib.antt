@@ -1,0 +1,11 @@
+pub mod Horner
+pub mod Undoing
+pub mod Ciphering
+pub mod Steps
+pub mod Whole
+pub mod Chaining
+pub mod Deciding
+pub mod Bundling
+pub mod Binding
+pub mod Lawful
+pub mod Genuine
