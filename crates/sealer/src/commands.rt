@@ -1,85 +1,134 @@
-use base::Refusal;
-use ciphers::BlockCipher;
+// The commands of the program, and their answers.
+use crate::work::Step;
+use crate::work::Way;
+use crate::work::authenticate;
+use crate::work::turn;
+use crate::work::work_on;
+use ciphers::Aes128;
+use ciphers::Aes128Cipher;
 use ciphers::Speck128;
-use ciphers::speck::SpeckCipher;
+use ciphers::SpeckCipher;
+use mode::hash;
 use std::alloc::AllocError;
 use std::alloc::Global;
 use text::Fault;
-use text::declined;
+use text::FaultFromAlloc;
+use text::FaultFromRefusal;
 use text::decode;
 use text::encode;
-use text::fault::FaultFromAlloc;
-use text::fault::FaultFromRefused;
-use text::split;
+use text::words_of;
 
-const BLOCK_LEN: usize = 16;
-
-// The two ways through a cipher.
+// The kinds of cipher by their names in a command.
 #[derive(Clone, Copy)]
-enum Way {
-    Forward,
-    Back,
+enum Kind {
+    Aes128,
+    Speck128,
 }
 
 // One line's answer, or nothing for a line that is passed over.
 pub fn respond(heap: Global, line: &[u8]) -> Result<Option<String>, AllocError> {
-    let Ok(text) = std::str::from_utf8(line) else {
-        return Ok(Some(String::from_str(heap, "error the line is not text")?));
-    };
-    let words = split(heap, text)?;
-    let Some(first) = words.first() else {
-        return Ok(None);
-    };
-    if first.starts_with('#') {
+    match try_respond(heap, line) {
+        Ok(answer) => Ok(answer),
+        Err(fault) => Ok(Some(fault.answer(heap)?)),
+    }
+}
+
+fn try_respond(heap: Global, line: &[u8]) -> Result<Option<String>, Fault> {
+    let words = words_of(heap, line)?;
+    if words.is_empty() {
         return Ok(None);
     }
-    match obey(heap, &words) {
-        Ok(answer) => Ok(Some(answer)),
-        Err(Fault::Line(wrong)) => Ok(Some(format!(heap, "error {wrong}")?)),
-        Err(Fault::Memory) => Err(AllocError),
-    }
+    Ok(Some(obey(heap, &words)?))
 }
 
 // The answer to a command.
 fn obey(heap: Global, words: &[&str]) -> Result<String, Fault> {
     match words {
-        ["encrypt", cipher, key, block] => turn(heap, Way::Forward, cipher, key, block),
-        ["decrypt", cipher, key, block] => turn(heap, Way::Back, cipher, key, block),
+        ["encrypt", cipher, key, block] => on_block(heap, Way::Forward, cipher, key, block),
+        ["decrypt", cipher, key, block] => on_block(heap, Way::Back, cipher, key, block),
+        ["cmac", cipher, key, message] => on_code(heap, cipher, key, message),
+        ["hash", tau, message] => on_hash(heap, tau, message),
+        ["seal", rest @ ..] => on_message(heap, Step::Seal, rest),
+        ["open", rest @ ..] => on_message(heap, Step::Open, rest),
+        ["seal-proof", rest @ ..] => on_message(heap, Step::SealWithProof, rest),
+        ["open-proof", rest @ ..] => on_message(heap, Step::OpenWithProof, rest),
         _ => Err(Fault::Line("not a command")),
     }
 }
 
-// A block under a key, forward or back.
-fn turn(heap: Global, way: Way, cipher: &str, key: &str, block: &str) -> Result<String, Fault> {
-    let key = decode(heap, key)?;
-    let mut block = decode(heap, block)?;
-    if block.len() != BLOCK_LEN {
-        return Err(Fault::Line("a block has sixteen bytes"));
-    }
-    let done = match cipher {
-        "speck128" => turn_block::<Speck128>(way, &key, &mut block),
-        _ => return Err(Fault::Line("not a cipher")),
-    };
-    match done {
-        Ok(()) => {
-            let spelled = encode(heap, &block)?;
-            Ok(format!(heap, "ok {spelled}")?)
-        }
-        Err(why) => Ok(declined(heap, why)?),
+fn kind_of(word: &str) -> Result<Kind, Fault> {
+    match word {
+        "aes128" => Ok(Kind::Aes128),
+        "speck128" => Ok(Kind::Speck128),
+        _ => Err(Fault::Line("not a cipher")),
     }
 }
 
-fn turn_block<C: BlockCipher + Drop>(
-    way: Way,
-    key: &[u8],
-    block: &mut [u8],
-) -> Result<(), Refusal> {
-    let cipher = C::new(key)?;
-    if block.len() == BLOCK_LEN {
-        match way {
-            Way::Forward => cipher.encrypt(block),
-            Way::Back => cipher.decrypt(block),
-        }
+// The line of an accepted call that answers bytes.
+fn ok(heap: Global, bytes: &[u8]) -> Result<String, Fault> {
+    let spelled = encode(heap, bytes)?;
+    Ok(format!(heap, "ok {spelled}")?)
+}
+
+// A block under a key, forward or back.
+fn on_block(heap: Global, way: Way, cipher: &str, key: &str, block: &str) -> Result<String, Fault> {
+    let kind = kind_of(cipher)?;
+    let key = decode(heap, key)?;
+    let mut bytes = [0u8; 16];
+    fill(heap, block, &mut bytes, "a block has sixteen bytes")?;
+    match kind {
+        Kind::Aes128 => turn::<Aes128>(way, &key, &mut bytes)?,
+        Kind::Speck128 => turn::<Speck128>(way, &key, &mut bytes)?,
     }
+    ok(heap, &bytes)
+}
+
+// Sixteen bytes from a word.
+fn fill(heap: Global, word: &str, bytes: &mut [u8; 16], wrong: &'static str) -> Result<(), Fault> {
+    let read = decode(heap, word)?;
+    if read.len() != 16 {
+        return Err(Fault::Line(wrong));
+    }
+    bytes.copy_from_slice(&read);
     Ok(())
+}
+
+fn on_code(heap: Global, cipher: &str, key: &str, message: &str) -> Result<String, Fault> {
+    let kind = kind_of(cipher)?;
+    let key = decode(heap, key)?;
+    let message = decode(heap, message)?;
+    let mut code = [0u8; 16];
+    match kind {
+        Kind::Aes128 => authenticate::<Aes128>(&key, &message, &mut code)?,
+        Kind::Speck128 => authenticate::<Speck128>(&key, &message, &mut code)?,
+    }
+    ;
+    ok(heap, &code)
+}
+
+fn on_hash(heap: Global, tau: &str, message: &str) -> Result<String, Fault> {
+    let mut element = [0u8; 16];
+    fill(heap, tau, &mut element, "tau has sixteen bytes")?;
+    let message = decode(heap, message)?;
+    ok(heap, &hash(&element, &message)?)
+}
+
+// A message sealed or opened: the words are cipher, bundle, nonce, associated data and message.
+fn on_message(heap: Global, step: Step, words: &[&str]) -> Result<String, Fault> {
+    let [cipher, bundle, nonce, ad, message] = words else {
+        return Err(Fault::Line("not the words of this command"));
+    };
+    let kind = kind_of(cipher)?;
+    let bundle = decode(heap, bundle)?;
+    let nonce = decode(heap, nonce)?;
+    let ad = decode(heap, ad)?;
+    let mut message = decode(heap, message)?;
+    step.make_room(&mut message)?;
+    match kind {
+        Kind::Aes128 => work_on::<Aes128>(step, &bundle, &nonce, &ad, &mut message)?,
+        Kind::Speck128 => work_on::<Speck128>(step, &bundle, &nonce, &ad, &mut message)?,
+    }
+    ;
+    step.drop_room(&mut message);
+    ok(heap, &message)
 }

@@ -1,5 +1,6 @@
-// Reads commands on block ciphers, one a line, and answers each with one line.
+// Reads commands on ciphers and messages, one a line, and answers each with one line.
 mod commands;
+mod work;
 
 use commands::respond;
 use std::io;
