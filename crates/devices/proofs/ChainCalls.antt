@@ -8,7 +8,7 @@ use native.Mathlib.Omega.{arith}
 use Rattle.std.specs.declared.result.Result.the-variants.{Ok, Err}
 use Rattle.std.proofs.shelf.Lists.{getD-map}
 use Rattle.std.proofs.shelf.Tests.{le-leb, lt-leb, lt-ltb, le-ltb}
-use Rattle.base.specs.declared.refusals.Refusal.the-variants.{NoSuchSlot, WrongLength, EmptySlot, NoRoom}
+use Rattle.base.specs.declared.refusals.Refusal.the-variants.{NoSuchSlot, EmptySlot, NoRoom}
 use Rattle.base.specs.Bytes.{AllBytes}
 use Rattle.devices.specs.Slots.{Slot, nothing, row, RowFits, unitsOfOthers}
 use Rattle.devices.specs.Answers.{writeAnswer, readAnswer, clearAnswer, lengthAnswer, bytesAt}
@@ -70,7 +70,3 @@ module _ (s m c : ℕ) (b : List ℕ) (size : length b ≡ s + 32 * c) (i : ℕ)
 
   pub write-none : (n : ℕ) → 16 ≤ n → n ≤ m → c < unitsOfOthers (chainShape s m c) (chainHeld s c b) i + chainUnits n → Err NoRoom ≡ writeAnswer (chainShape s m c) (chainHeld s c b) i n
   write-none n lo hi r = rw (lt-leb s i h, le-ltb n 16 lo, le-ltb m n hi, lt-ltb c (unitsOfOthers (chainShape s m c) (chainHeld s c b) i + chainUnits n) r) refl
-
-  pub write-wrong : (n : ℕ) → (n < 16) ⊎ ((16 ≤ n) × (m < n)) → Err WrongLength ≡ writeAnswer (chainShape s m c) (chainHeld s c b) i n
-  write-wrong n (inl l) = rw (lt-leb s i h, lt-ltb n 16 l) refl
-  write-wrong n (inr l) = rw (lt-leb s i h, le-ltb n 16 (l .0), lt-ltb m n (l .1)) refl

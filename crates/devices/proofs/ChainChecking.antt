@@ -39,18 +39,18 @@ rest-part cs k n h =
     rw (e, g) (sym (ap (λ t. drop (2 + n) (take t (drop a cs))) (sym f) ∙ drop-take (2 + n) (30 - n) (drop a cs) ∙ ap (take (30 - n)) (drop-drop (2 + n) a cs)))
 
 -- zeros after the piece of a cell, as a part of the cells
-pub good-zero : (c : ℕ) (cs : List ℕ) (k n : ℕ) → length cs ≡ c * 32 → 1 ≤ k → k ≤ c → n ≡ usedOf cs k → 1 ≤ n → n ≤ 30 → ((nextOf cs k ≡ 0 → ⊥) → usedOf cs k ≡ 30) →
+pub right-zero : (c : ℕ) (cs : List ℕ) (k n : ℕ) → length cs ≡ c * 32 → 1 ≤ k → k ≤ c → n ≡ usedOf cs k → 1 ≤ n → n ≤ 30 → ((nextOf cs k ≡ 0 → ⊥) → usedOf cs k ≡ 30) →
     (p : List ℕ) → p ≡ take (((k - 1) * 32 + 32) - ((k - 1) * 32 + 2 + n)) (drop ((k - 1) * 32 + 2 + n) cs) → p ≡ replicate (length p) 0 → RightCell c cs k
-good-zero c cs k n size lo hi e l h f p ep z =
+right-zero c cs k n size lo hi e l h f p ep z =
     let w : length (cell cs k) ≡ 32 = part-length 32 c cs size (k - 1) (omega arith) in
     let q : p ≡ drop (2 + n) (cell cs k) = ep ∙ rest-part cs k n h in
     let m : length p ≡ 30 - n = ap (λ t. length t) q ∙ omega (arith, length-drop (2 + n) (cell cs k)) in
     let d : drop (2 + n) (cell cs k) ≡ replicate (30 - n) 0 = sym q ∙ z ∙ ap (λ t. replicate t 0) m in
     record { high = hi; least = omega arith; most = omega arith; full = f; is = laid-out (cell cs k) w n e h d ∙ ap (λ t. cellOf (nextOf cs k) (take t (drop 2 (cell cs k)))) e }
 
-pub zero-good : (c : ℕ) (cs : List ℕ) (k n : ℕ) → length cs ≡ c * 32 → 1 ≤ k → k ≤ c → n ≡ usedOf cs k → n ≤ 30 →
+pub zero-right : (c : ℕ) (cs : List ℕ) (k n : ℕ) → length cs ≡ c * 32 → 1 ≤ k → k ≤ c → n ≡ usedOf cs k → n ≤ 30 →
     (p : List ℕ) → p ≡ take (((k - 1) * 32 + 32) - ((k - 1) * 32 + 2 + n)) (drop ((k - 1) * 32 + 2 + n) cs) → RightCell c cs k → p ≡ replicate (length p) 0
-zero-good c cs k n size lo hi e h p ep g =
+zero-right c cs k n size lo hi e h p ep g =
     let w : length (cell cs k) ≡ 32 = part-length 32 c cs size (k - 1) (omega arith) in
     let q : p ≡ drop (2 + n) (cell cs k) = ep ∙ rest-part cs k n h in
     let m : length p ≡ 30 - n = ap (λ t. length t) q ∙ omega (arith, length-drop (2 + n) (cell cs k)) in

@@ -15,7 +15,7 @@ use Rattle.devices.specs.Slots.{Slot, nothing, RowFits}
 use Rattle.devices.specs.ChainCells.{cell, chainFrom, rowIn, chainsOf, rowsOf, timesIn, timesOn, RightChain}
 use Rattle.devices.specs.ChainMemory.{slotIn, chainHeld, chainShape, holdsNothing, WellFormed, outside, wrongDimensions}
 use Rattle.devices.specs.ChainSound.{Limits, CellLimits}
-use Rattle.devices.proofs.ChainRight.{good-none}
+use Rattle.devices.proofs.ChainRight.{right-none}
 
 -- ---- no chains
 
@@ -55,7 +55,7 @@ module _ (s m c : ℕ) (b : List ℕ) (e : b ≡ zeros (s + 32 * c)) where
     linked = record {
       chains = λ i h.
           let lt : i < s = omega (arith, ap (λ t. length t) heads-zero, length-replicate {A = ℕ} s 0) in
-          good-none c (drop s b) c (getD (take s b) i 0) (ap (λ t. getD t i 0) heads-zero ∙ getD-replicate s i 0 0 lt);
+          right-none c (drop s b) c (getD (take s b) i 0) (ap (λ t. getD t i 0) heads-zero ∙ getD-replicate s i 0 0 lt);
       once = λ k. omega (arith, ap (timesOn k) chains-zero, times-none k s);
       clean = λ k lo hi z.
           let le : 32 ≤ 32 * c - (k - 1) * 32 = omega arith in

@@ -14,7 +14,7 @@ use Rattle.devices.specs.Slots.{Slot, nothing, row, RowFits}
 use Rattle.devices.specs.ChainCells.{cell, nextOf, usedOf, RightCell, RightChain, chainFrom, rowIn, chainsOf, timesIn, timesOn, Linked}
 use Rattle.devices.specs.ChainMemory.{slotIn, chainHeld, rowsIn, chainShape, WellFormed}
 use Rattle.devices.proofs.ChainPlans.{here, here-same, here-other}
-use Rattle.devices.proofs.ChainRight.{good-more, good-less, good-none, row-more, row-none, count-more, count-zero}
+use Rattle.devices.proofs.ChainRight.{right-more, right-less, right-none, row-more, row-none, count-more, count-zero}
 use Rattle.devices.proofs.ChainLinked.{row-at, rows-length}
 use Rattle.devices.proofs.ChainReleasing.{heads-size}
 
@@ -41,7 +41,7 @@ module _ (c : ℕ) (cs : List ℕ) (head : ℕ) (before seen : List ℕ) (k at l
     follow-over z r = ne (subst (λ t. RightChain c cs t k) z (a .on r))
 
     pub follow-cell : 1 ≤ left → (RightCell c cs k → ⊥) → RightChain c cs c head → ⊥
-    follow-cell p bad r = bad (good-more c cs left k p ne (a .on r) .0)
+    follow-cell p bad r = bad (right-more c cs left k p ne (a .on r) .0)
 
     pub follow-met : 1 ≤ left → (getD seen k 0 ≡ 0 → ⊥) → ((j : ℕ) → getD before j 0 + timesIn j (chainFrom cs c head) ≤ 1) → ⊥
     follow-met p s o = omega (arith, o k, a .counted k, count-more cs k left k p ne, here-same k, s)
@@ -51,8 +51,8 @@ module _ (c : ℕ) (cs : List ℕ) (head : ℕ) (before seen : List ℕ) (k at l
         let m = row-more c cs left k p ne g in
         let w : length (rowIn cs (chainFrom cs (left - 1) next)) ≡ length (rowIn cs (chainFrom cs (left - 1) (nextOf cs k))) = ap (λ t. length (rowIn cs (chainFrom cs (left - 1) t))) ex in
         record {
-          back = λ r. a .back (good-less c cs left k p g (subst (λ t. RightChain c cs (left - 1) t) ex r));
-          on = λ r. subst (λ t. RightChain c cs (left - 1) t) (sym ex) (good-more c cs left k p ne (a .on r) .1);
+          back = λ r. a .back (right-less c cs left k p g (subst (λ t. RightChain c cs (left - 1) t) ex r));
+          on = λ r. subst (λ t. RightChain c cs (left - 1) t) (sym ex) (right-more c cs left k p ne (a .on r) .1);
           long = omega (arith, a .long);
           most = omega (arith, a .most, g .most);
           counted = λ j.
@@ -73,7 +73,7 @@ module _ (c : ℕ) (cs : List ℕ) (head : ℕ) (before seen : List ℕ) (k at l
 
   module _ (z : k ≡ 0) where
     pub follow-right : RightChain c cs c head
-    follow-right = a .back (good-none c cs left k z)
+    follow-right = a .back (right-none c cs left k z)
 
     pub follow-long : at ≡ length (rowIn cs (chainFrom cs c head))
     follow-long = omega (arith, a .long, row-none cs left k z)

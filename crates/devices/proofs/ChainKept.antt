@@ -14,7 +14,7 @@ use Rattle.devices.specs.Slots.{Slot, nothing, row, RowFits}
 use Rattle.devices.specs.ChainCells.{cell, chainFrom, rowIn, timesIn, timesOn}
 use Rattle.devices.specs.ChainMemory.{chainsIn, otherChains, rowsIn, slotIn, chainHeld, chainShape, WellFormed, RowPut, Written, Cleared}
 use Rattle.devices.proofs.ChainLaid.{first, layout, Lies}
-use Rattle.devices.proofs.ChainPlans.{here, here-same, here-other, count-cons, owners-set}
+use Rattle.devices.proofs.ChainPlans.{here, here-same, here-other, count-cons, times-set}
 use Rattle.devices.proofs.ChainHas.{Has}
 use Rattle.devices.proofs.ChainLinked.{has-linked, rows-length}
 use Rattle.devices.proofs.ChainReleasing.{cells-size, heads-size}
@@ -82,10 +82,10 @@ module _ (s c slot : ℕ) (r before after : List ℕ) (size : length before ≡ 
   -- ---- how often a cell stands on the others
 
   times-before : (k : ℕ) → timesOn k (otherChains s c before slot) + timesIn k (getD (chainsIn s c before) slot []) ≡ timesOn k (chainsIn s c before)
-  times-before k = omega (arith, owners-set k (chainsIn s c before) slot [] (omega (arith, many)))
+  times-before k = omega (arith, times-set k (chainsIn s c before) slot [] (omega (arith, many)))
 
   times-after : (k : ℕ) → timesOn k (otherChains s c before slot) + timesIn k (getD (chainsIn s c after) slot []) ≡ timesOn k (chainsIn s c after)
-  times-after k = omega (arith, owners-set k (chainsIn s c after) slot [] (omega (arith, many-after)), ap (timesOn k) (a .others))
+  times-after k = omega (arith, times-set k (chainsIn s c after) slot [] (omega (arith, many-after)), ap (timesOn k) (a .others))
 
   pub written : Written s c slot before after
   written = record {

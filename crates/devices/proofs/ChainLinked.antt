@@ -12,7 +12,7 @@ use Rattle.devices.specs.ChainCells.{cell, chainFrom, rowIn, chainUnits, chain
 use Rattle.devices.proofs.ChainLaid.{Lies, Plan}
 use Rattle.devices.proofs.ChainWalks.{plan-room}
 use Rattle.devices.proofs.ChainHas.{Has, rows-are, has-cost}
-use Rattle.devices.proofs.ChainRight.{good-lies, lies-good, walk-short}
+use Rattle.devices.proofs.ChainRight.{right-lies, lies-right, walk-short}
 
 pub rows-length : (c : ℕ) (cs heads : List ℕ) → length (rowsOf c cs heads) ≡ length heads
 rows-length c cs heads = length-map (chainsOf c cs heads) (rowIn cs) ∙ length-map heads (chainFrom cs c)
@@ -28,7 +28,7 @@ has-linked c cs heads size a = record {
   size = size;
   lists = length-map heads (chainFrom cs c);
   held = rows-length c cs heads;
-  chains = λ i h. rw (chain-at c cs heads i h, row-at c cs heads i h) (good-lies c cs c (getD heads i 0) (a .chains i h));
+  chains = λ i h. rw (chain-at c cs heads i h, row-at c cs heads i h) (right-lies c cs c (getD heads i 0) (a .chains i h));
   once = a .once;
   free = a .clean;
 }
@@ -37,7 +37,7 @@ pub linked-has : (c : ℕ) (cs heads : List ℕ) (rows : List (List ℕ)) → Ha
 linked-has c cs heads rows a = record {
   chains = λ i h.
       let le : length (getD (chainsOf c cs heads) i []) ≤ c = rw (chain-at c cs heads i h) (walk-short cs c (getD heads i 0)) in
-      lies-good c cs c (getD heads i 0) (getD (chainsOf c cs heads) i []) (getD rows i []) le (a .chains i h);
+      lies-right c cs c (getD heads i 0) (getD (chainsOf c cs heads) i []) (getD rows i []) le (a .chains i h);
   once = a .once;
   clean = a .free;
 }

@@ -38,8 +38,8 @@ apart k j js e =
 pub on-one : (k : ℕ) (jss : List (List ℕ)) (i : ℕ) → i < length jss → countBy (eqb k) (getD jss i []) ≤ timesOn k jss
 on-one k jss i h = getD-le-sumBy (λ js. countBy (eqb k) js) jss i [] h
 
-pub owners-set : (k : ℕ) (jss : List (List ℕ)) (i : ℕ) (js : List ℕ) → i < length jss → timesOn k (set jss i js) + countBy (eqb k) (getD jss i []) ≡ timesOn k jss + countBy (eqb k) js
-owners-set k jss i js h = sumBy-set (λ t. countBy (eqb k) t) jss i js [] h
+pub times-set : (k : ℕ) (jss : List (List ℕ)) (i : ℕ) (js : List ℕ) → i < length jss → timesOn k (set jss i js) + countBy (eqb k) (getD jss i []) ≡ timesOn k jss + countBy (eqb k) js
+times-set k jss i js h = sumBy-set (λ t. countBy (eqb k) t) jss i js [] h
 
 -- ---- cells
 
@@ -144,14 +144,14 @@ plan-push c cs roots jss rows a i h k lo hi none p pl ph b =
           (lies-other c cs (a .size) k lo hi new l (getD roots j 0) (getD jss j []) (getD rows j []) (off j (omega (arith, a .lists))) (a .chains j jr)))
           (cases-eq j i);
       once = λ n.
-          let s = owners-set n jss i (k ∷ js) ij in
+          let s = times-set n jss i (k ∷ js) ij in
           let t = count-cons n k js in
           ⊎-elim
           (λ e. let z : timesOn n jss ≡ 0 = rw e none in let w : here n k ≡ 1 = rw e (here-same k) in omega arith)
           (λ ne. let w = here-other n k ne in omega (arith, a .once n))
           (cases-eq n k);
       free = λ n x y z.
-          let s = owners-set n jss i (k ∷ js) ij in
+          let s = times-set n jss i (k ∷ js) ij in
           let t = count-cons n k js in
           let ne : n ≡ k → ⊥ = λ e. (let w : here n k ≡ 1 = rw e (here-same k) in omega arith) in
           cell-other c cs (a .size) k lo hi new l n x ne ∙ a .free n x y (omega arith);
@@ -172,7 +172,7 @@ plan-pop c cs roots jss rows a i h k js is =
     let sum : countBy (eqb k) (getD jss i []) ≡ 1 + countBy (eqb k) js = ap (λ t. countBy (eqb k) t) is ∙ count-cons k k js ∙ rw (here-same k) refl in
     let rest : countBy (eqb k) js ≡ 0 = omega (arith, on-one k jss i ij, a .once k) in
     let off : (j : ℕ) → j < length jss → (j ≡ i → ⊥) → countBy (eqb k) (getD jss j []) ≡ 0 = λ j q ne.
-    (let s = owners-set k jss i [] ij in
+    (let s = times-set k jss i [] ij in
     let o = on-one k (set jss i []) j (omega (arith, length-set jss i [])) in
     let g : countBy (eqb k) (getD (set jss i []) j []) ≡ countBy (eqb k) (getD jss j []) = ap (λ t. countBy (eqb k) t) (getD-set-other jss i j [] [] ne) in
     omega (arith, a .once k)) in
@@ -189,11 +189,11 @@ plan-pop c cs roots jss rows a i h k js is =
           (lies-other c cs (a .size) k lo hi new refl (getD roots j 0) (getD jss j []) (getD rows j []) (off j (omega (arith, a .lists)) ne) (a .chains j jr)))
           (cases-eq j i);
       once = λ n.
-          let s = owners-set n jss i js ij in
+          let s = times-set n jss i js ij in
           let t : countBy (eqb n) (getD jss i []) ≡ here n k + countBy (eqb n) js = ap (λ t. countBy (eqb n) t) is ∙ count-cons n k js in
           omega (arith, a .once n);
       free = λ n x y z.
-          let s = owners-set n jss i js ij in
+          let s = times-set n jss i js ij in
           let t : countBy (eqb n) (getD jss i []) ≡ here n k + countBy (eqb n) js = ap (λ t. countBy (eqb n) t) is ∙ count-cons n k js in
           ⊎-elim
           (λ e. rw e (cell-same c cs (a .size) k lo hi new refl))

@@ -35,20 +35,20 @@ walk-zero : (cs : List ℕ) (f : ℕ) → chainFrom cs f 0 ≡ []
 walk-zero cs zero = refl
 walk-zero cs (suc f) = refl
 
-pub good-lies : (c : ℕ) (cs : List ℕ) (f k : ℕ) → RightChain c cs f k → Lies c cs k (chainFrom cs f k) (rowIn cs (chainFrom cs f k))
-good-lies c cs zero k g = record { starts = sym g; cells = refl; count = refl; inside = λ p q. absurd (omega arith) }
-good-lies c cs (suc f) k g = ⊎-elim
+pub right-lies : (c : ℕ) (cs : List ℕ) (f k : ℕ) → RightChain c cs f k → Lies c cs k (chainFrom cs f k) (rowIn cs (chainFrom cs f k))
+right-lies c cs zero k g = record { starts = sym g; cells = refl; count = refl; inside = λ p q. absurd (omega arith) }
+right-lies c cs (suc f) k g = ⊎-elim
     (λ z. rw (eq-eqb k 0 z) (record { starts = sym z; cells = refl; count = refl; inside = λ p q. absurd (omega arith) }))
     (λ ne.
     let h = g ne in
     let n = nextOf cs k in
     let pl = piece-length c cs k (h .0) in
     let b : Before (pieceOf cs k) (rowIn cs (chainFrom cs f n)) = ⊎-elim (λ z. inr (ap (λ t. rowIn cs (chainFrom cs f t)) z ∙ ap (rowIn cs) (walk-zero cs f))) (λ e. inl (pl ∙ h .0 .full e)) (cases-eq n 0) in
-    rw (ne-eqb k 0 ne) (lies-cons c cs k n (chainFrom cs f n) (rowIn cs (chainFrom cs f n)) (pieceOf cs k) (omega (arith, ne)) (h .0 .high) (h .0 .is) (omega (arith, h .0 .least)) (omega (arith, h .0 .most)) b (good-lies c cs f n (h .1))))
+    rw (ne-eqb k 0 ne) (lies-cons c cs k n (chainFrom cs f n) (rowIn cs (chainFrom cs f n)) (pieceOf cs k) (omega (arith, ne)) (h .0 .high) (h .0 .is) (omega (arith, h .0 .least)) (omega (arith, h .0 .most)) b (right-lies c cs f n (h .1))))
     (cases-eq k 0)
 
-good-first : (c : ℕ) (cs : List ℕ) (k : ℕ) (js r : List ℕ) → Lies c cs k (k ∷ js) r → RightCell c cs k
-good-first c cs k js r a =
+right-first : (c : ℕ) (cs : List ℕ) (k : ℕ) (js r : List ℕ) → Lies c cs k (k ∷ js) r → RightCell c cs k
+right-first c cs k js r a =
     let u = first-used cs k js r (a .cells) in
     let n = first-next cs k js r (a .cells) in
     let l = length-take 30 r in
@@ -71,13 +71,13 @@ tail-lies c cs k js r a = record {
   inside = λ p q. a .inside (suc p) (omega arith);
 }
 
-pub lies-good : (c : ℕ) (cs : List ℕ) (f k : ℕ) (js r : List ℕ) → length js ≤ f → Lies c cs k js r → RightChain c cs f k
-lies-good c cs zero k [] r l a = sym (a .starts)
-lies-good c cs zero k (j ∷ js) r l a = absurd (omega arith)
-lies-good c cs (suc f) k [] r l a = λ ne. absurd (ne (sym (a .starts)))
-lies-good c cs (suc f) k (j ∷ js) r l a = λ ne.
+pub lies-right : (c : ℕ) (cs : List ℕ) (f k : ℕ) (js r : List ℕ) → length js ≤ f → Lies c cs k js r → RightChain c cs f k
+lies-right c cs zero k [] r l a = sym (a .starts)
+lies-right c cs zero k (j ∷ js) r l a = absurd (omega arith)
+lies-right c cs (suc f) k [] r l a = λ ne. absurd (ne (sym (a .starts)))
+lies-right c cs (suc f) k (j ∷ js) r l a = λ ne.
     let b : Lies c cs k (k ∷ js) r = subst (λ t. Lies c cs k (t ∷ js) r) (a .starts) a in
-    (good-first c cs k js r b, lies-good c cs f (nextOf cs k) js (drop 30 r) (omega arith) (tail-lies c cs k js r b))
+    (right-first c cs k js r b, lies-right c cs f (nextOf cs k) js (drop 30 r) (omega arith) (tail-lies c cs k js r b))
 
 pub walk-short : (cs : List ℕ) (f k : ℕ) → length (chainFrom cs f k) ≤ f
 walk-short cs zero k = omega arith
@@ -87,13 +87,13 @@ walk-short cs (suc f) k = ⊎-elim
     (cases-eq k 0)
 
 -- one turn of the walk
-pub good-more : (c : ℕ) (cs : List ℕ) (f k : ℕ) → 1 ≤ f → (k ≡ 0 → ⊥) → RightChain c cs f k → RightCell c cs k × RightChain c cs (f - 1) (nextOf cs k)
-good-more c cs zero k h ne g = absurd (omega arith)
-good-more c cs (suc f) k h ne g = let e : suc f - 1 ≡ f = omega arith in rw e (g ne)
+pub right-more : (c : ℕ) (cs : List ℕ) (f k : ℕ) → 1 ≤ f → (k ≡ 0 → ⊥) → RightChain c cs f k → RightCell c cs k × RightChain c cs (f - 1) (nextOf cs k)
+right-more c cs zero k h ne g = absurd (omega arith)
+right-more c cs (suc f) k h ne g = let e : suc f - 1 ≡ f = omega arith in rw e (g ne)
 
-pub good-less : (c : ℕ) (cs : List ℕ) (f k : ℕ) → 1 ≤ f → RightCell c cs k → RightChain c cs (f - 1) (nextOf cs k) → RightChain c cs f k
-good-less c cs zero k h g t = absurd (omega arith)
-good-less c cs (suc f) k h g t = let e : suc f - 1 ≡ f = omega arith in λ ne. (g, rw e at t)
+pub right-less : (c : ℕ) (cs : List ℕ) (f k : ℕ) → 1 ≤ f → RightCell c cs k → RightChain c cs (f - 1) (nextOf cs k) → RightChain c cs f k
+right-less c cs zero k h g t = absurd (omega arith)
+right-less c cs (suc f) k h g t = let e : suc f - 1 ≡ f = omega arith in λ ne. (g, rw e at t)
 
 pub row-more : (c : ℕ) (cs : List ℕ) (f k : ℕ) → 1 ≤ f → (k ≡ 0 → ⊥) → RightCell c cs k → length (rowIn cs (chainFrom cs f k)) ≡ usedOf cs k + length (rowIn cs (chainFrom cs (f - 1) (nextOf cs k)))
 row-more c cs zero k h ne g = absurd (omega arith)
@@ -104,14 +104,9 @@ row-more c cs (suc f) k h ne g =
 pub row-none : (cs : List ℕ) (f k : ℕ) → k ≡ 0 → length (rowIn cs (chainFrom cs f k)) ≡ 0
 row-none cs f k z = ap (λ t. length (rowIn cs (chainFrom cs f t))) z ∙ ap (λ t. length (rowIn cs t)) (walk-zero cs f)
 
-pub good-none : (c : ℕ) (cs : List ℕ) (f k : ℕ) → k ≡ 0 → RightChain c cs f k
-good-none c cs zero k z = z
-good-none c cs (suc f) k z = λ ne. absurd (ne z)
-
--- a walk that is good goes on while it is not at 0, so there is a cell left
-pub good-left : (c : ℕ) (cs : List ℕ) (f k : ℕ) → (k ≡ 0 → ⊥) → RightChain c cs f k → 1 ≤ f
-good-left c cs zero k ne g = absurd (ne g)
-good-left c cs (suc f) k ne g = omega arith
+pub right-none : (c : ℕ) (cs : List ℕ) (f k : ℕ) → k ≡ 0 → RightChain c cs f k
+right-none c cs zero k z = z
+right-none c cs (suc f) k z = λ ne. absurd (ne z)
 
 pub count-more : (cs : List ℕ) (j f k : ℕ) → 1 ≤ f → (k ≡ 0 → ⊥) → countBy (eqb j) (chainFrom cs f k) ≡ here j k + countBy (eqb j) (chainFrom cs (f - 1) (nextOf cs k))
 count-more cs j zero k h ne = absurd (omega arith)

@@ -144,11 +144,11 @@ unused-one cs k (j ∷ js) r e h z =
     let w : here k j ≡ 0 = rw (ne-eqb k j ne) refl in
     omega (arith, count-cons k j js)
 
-pub no-owners : (k : ℕ) (jss : List (List ℕ)) → ((i : ℕ) → i < length jss → countBy (eqb k) (getD jss i []) ≡ 0) → timesOn k jss ≡ 0
-no-owners k [] h = refl
-no-owners k (js ∷ jss) h = omega (arith, sumBy-cons (λ t. countBy (eqb k) t) js jss, h 0 (omega arith), no-owners k jss (λ i q. h (suc i) (omega arith)))
+pub times-none-all : (k : ℕ) (jss : List (List ℕ)) → ((i : ℕ) → i < length jss → countBy (eqb k) (getD jss i []) ≡ 0) → timesOn k jss ≡ 0
+times-none-all k [] h = refl
+times-none-all k (js ∷ jss) h = omega (arith, sumBy-cons (λ t. countBy (eqb k) t) js jss, h 0 (omega arith), times-none-all k jss (λ i q. h (suc i) (omega arith)))
 
 pub plan-unused : (c : ℕ) (cs roots : List ℕ) (jss rows : List (List ℕ)) → Plan c cs roots jss rows → (k : ℕ) → usedOf cs k ≡ 0 → timesOn k jss ≡ 0
-plan-unused c cs roots jss rows a k z = no-owners k jss (λ i q.
+plan-unused c cs roots jss rows a k z = times-none-all k jss (λ i q.
     let l = a .chains i (omega (arith, a .lists)) in
     unused-one cs k (getD jss i []) (getD rows i []) (l .cells) (l .count) z)

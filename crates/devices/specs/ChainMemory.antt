@@ -66,6 +66,7 @@ pub record RowPut (s c slot : ℕ) (r before after : List ℕ) : Type 0 where
 
 -- ---- setting out and attaching
 
+-- n is not low to high
 abbrev pub outside : ℕ → ℕ → ℕ → Bool
 outside low high n = ltb n low || ltb high n
 

@@ -6,7 +6,7 @@ use lib.ListN.{getD}
 use Rattle.std.proofs.shelf.Tests.{false≢true}
 use Rattle.devices.specs.ChainCells.{nextOf, usedOf}
 use Rattle.devices.proofs.ChainBytes.{byte-there, next-there}
-use Rattle.devices.proofs.ChainChecking.{good-zero, zero-good}
+use Rattle.devices.proofs.ChainChecking.{right-zero, zero-right}
 use Rattle.devices.proofs.chain.checking.right_cell.Needs as need
 
 pub returns-then-n-lt1 : need.returns-then-n-lt1
@@ -28,6 +28,6 @@ returns c =
     let u : n ≡ usedOf b k = byte-there k 1 b (omega arith) in
     let f : (nextOf b k ≡ 0 → ⊥) → usedOf b k ≡ 30 = λ ne. ⊎-elim (λ h. sym u ∙ h .1) (λ h. absurd (ne (sym (next-there k b) ∙ h))) (c .else-cells-at-ne0 .either) in
     record {
-      right = λ e. good-zero (c .args .count) b k n (c .pre .size) (c .pre .first) (c .if-k-count .left) u (c .if-n-lt1 .left) (c .if-n-gt30 .left) f _ refl (c .all-zero .ensures .right e);
-      wrong = λ e g. c .all-zero .ensures .wrong e (zero-good (c .args .count) b k n (c .pre .size) (c .pre .first) (c .if-k-count .left) u (c .if-n-gt30 .left) _ refl g);
+      right = λ e. right-zero (c .args .count) b k n (c .pre .size) (c .pre .first) (c .if-k-count .left) u (c .if-n-lt1 .left) (c .if-n-gt30 .left) f _ refl (c .all-zero .ensures .right e);
+      wrong = λ e g. c .all-zero .ensures .wrong e (zero-right (c .args .count) b k n (c .pre .size) (c .pre .first) (c .if-k-count .left) u (c .if-n-gt30 .left) _ refl g);
     }

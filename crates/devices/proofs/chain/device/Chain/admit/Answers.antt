@@ -1,32 +1,17 @@
 use native.Mathlib.Omega.{arith}
 use mathlib.Core.Path.{_≡_}
-use mathlib.Core.Logic.{inl, inr}
 use Prim.Native.Nat.{_+_, _<_, _≤_}
 use Rattle.devices.specs.Slots.{unitsOfOthers}
 use Rattle.devices.specs.ChainCells.{chainUnits}
 use Rattle.devices.specs.ChainMemory.{chainHeld, chainShape}
 use Rattle.devices.specs.ChainSound.{opened}
-use Rattle.devices.proofs.ChainCalls.{no-slot-write, write-wrong, write-room, write-none}
+use Rattle.devices.proofs.ChainCalls.{no-slot-write, write-room, write-none}
 use Rattle.devices.proofs.chain.device.Chain.admit.Needs as need
-use Rattle.devices.proofs.chain.device.Chain.admit.Needs.{then-len-lt16·by·then-len-lt16, then-len-lt16·by·else-len-lt16·then-len-self}
 
 pub returns-then-not-has : need.returns-then-not-has
 returns-then-not-has c =
     let l = c .args .self .now .layout in
     record { answer = no-slot-write (l .slots) (l .longest) (l .cells) (c .args .slot) (c .args .len) _ (c .has .ensures .wrong (c .if-not-has .taken)); inside = tt }
-
-pub returns-then-len-lt16 : need.returns-then-len-lt16
-returns-then-len-lt16 c =
-    let t = c .args .self .now in
-    let l = t .layout in
-    record {
-      answer = write-wrong (l .slots) (l .longest) (l .cells) (t .memory .bytes .now) (t .size) (c .args .slot) (c .has .ensures .right (c .if-not-has .left)) (c .args .len)
-          (elim (c .then-len-lt16 .came) [
-            | then-len-lt16·by·then-len-lt16 w ↦ inl (w .if-len-lt16 .taken)
-            | then-len-lt16·by·else-len-lt16·then-len-self w ↦ inr (omega (arith, w .if-len-lt16 .left), w .if-len-self .taken)
-          ]);
-      inside = tt;
-    }
 
 pub units-of-others-requires : need.units-of-others-requires
 units-of-others-requires c κs =
