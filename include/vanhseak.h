@@ -2,7 +2,7 @@
  *
  * Each call works inside the message, whose length stays. It answers 0 where it is accepted, and else the number of a
  * refusal (docs/REFUSALS.md): 3 for a bundle of the wrong length, 4 for a nonce or associated data above 1,024 bytes,
- * 6 for a message below 16 or above 65,536 bytes (for CMAC: above 65,536), 10 for a message that is not genuine.
+ * 6 for a message below 16 or above 65,536 bytes, 10 for a message that is not genuine.
  * A declined call leaves every byte as it was, except that a message that is not genuine is all zero afterwards.
  * A pointer may not be null, even where its length is 0, and no two of the byte ranges may overlap. */
 #ifndef VANHSEAK_H
@@ -29,10 +29,6 @@ VANHSEAK_CALL(vanhseak_speck128_seal);
 VANHSEAK_CALL(vanhseak_speck128_open);
 VANHSEAK_CALL(vanhseak_speck128_seal_with_proof);
 VANHSEAK_CALL(vanhseak_speck128_open_with_proof);
-
-/* The CMAC of a message, into a code of sixteen bytes; 3 for a key of the wrong length, 6 for a code of another length too. */
-size_t vanhseak_aes128_cmac(const uint8_t *key, size_t key_len, const uint8_t *message, size_t message_len, uint8_t *code, size_t code_len);
-size_t vanhseak_speck128_cmac(const uint8_t *key, size_t key_len, const uint8_t *message, size_t message_len, uint8_t *code, size_t code_len);
 
 #ifdef __cplusplus
 }

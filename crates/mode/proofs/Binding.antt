@@ -1,13 +1,13 @@
 -- CMAC gives blocks, so beta one and beta two are elements of the field.
-use mathlib.Core.Path.{_≡_, refl, sym, ap, _∙_}
+use mathlib.Core.Path.{_∙_}
 use mathlib.Core.Bool.{Bool, true, false, cond}
-use mathlib.Core.List.{List, [], _∷_, _++_, reverse}
+use mathlib.Core.List.{List, _∷_, _++_}
 use Prim.Native.Nat.{ℕ, zero, suc, _+_, _-_, _*_, _%_, _^_, _<_}
 use native.Mathlib.Omega.{arith}
 use lib.Dec.{eqb}
 use lib.ListN.{length, drop}
 use Rattle.base.specs.Bytes.{AllBytes, Block, xorFront, zeros}
-use Rattle.base.specs.Numbers.{number, bytes}
+use Rattle.base.specs.Numbers.{bytes}
 use Rattle.base.specs.Blocks.{blockAt, zeroPadded, endedBy}
 use Rattle.base.proofs.Strings.{take-bytes, drop-bytes, append-bytes, zeros-bytes, zeros-long, front-long, front-bytes, cons-bytes, reverse-bytes}
 use Rattle.base.proofs.Digits.{bytes-fit, block-lt}

@@ -1,14 +1,15 @@
 -- A bundle taken apart, and put together from its parts.
-use mathlib.Core.Path.{_≡_, refl, sym, ap, _∙_}
+use mathlib.Core.Path.{_≡_, sym, ap, _∙_}
 use mathlib.Core.List.{List, _++_}
-use Prim.Native.Nat.{ℕ, _+_, _-_, _*_, _^_, _<_}
+use Prim.Native.Nat.{ℕ, _+_, _*_, _^_, _<_}
 use native.Mathlib.Omega.{arith}
-use lib.ListN.{length, take, drop, length-append, length-drop, length-take}
-use Rattle.std.proofs.shelf.Lists.{take-at, drop-at, take-all, drop-drop, take-append-drop, take-rest}
+use lib.ListN.{length, take, drop, length-append, length-take}
+use Rattle.std.proofs.shelf.Lists.{take-at, drop-at, take-all, drop-drop, take-append-drop}
 use Rattle.base.specs.Bytes.{AllBytes}
 use Rattle.base.specs.Numbers.{number, bytes}
-use Rattle.base.proofs.Strings.{take-bytes}
-use Rattle.base.proofs.Digits.{bytes-long, bytes-number, element-again}
+use Rattle.base.proofs.Strings.{take-bytes, append-bytes}
+use Rattle.base.proofs.Digits.{bytes-long, bytes-fit, bytes-number, element-again}
+use Rattle.ciphers.specs.Keys.{Key}
 use Rattle.mode.specs.Sealing.{sealed, opened}
 use Rattle.mode.specs.Bundles.{tauOf, prfKey, blkKey, sealedUnder, openedUnder}
 
@@ -49,3 +50,10 @@ bundle-again bundle n h l =
     ∙ ap (λ (z : List ℕ). take 16 bundle ++ (take n (drop 16 bundle) ++ z)) (ap (λ (k : ℕ). drop k bundle) (omega arith) ∙ sym (drop-drop n 16 bundle))
     ∙ ap (λ (z : List ℕ). take 16 bundle ++ z) (take-append-drop n (drop 16 bundle))
     ∙ take-append-drop 16 bundle
+
+-- and what is put together so is as long as a bundle
+pub bundle-key : (tau n : ℕ) (a b : List ℕ) → Key n a → Key n b → Key (16 + 2 * n) (bytes 16 tau ++ (a ++ b))
+bundle-key tau n a b ha hb = record {
+  long = length-append (bytes 16 tau) (a ++ b) ∙ omega (arith, bytes-long 16 tau, length-append a b, ha .long, hb .long);
+  fit = append-bytes (bytes 16 tau) (a ++ b) (bytes-fit 16 tau) (append-bytes a b (ha .fit) (hb .fit));
+}

@@ -1,13 +1,13 @@
 -- Enciphering and its undoing, each the other's inverse.
 use mathlib.Core.Path.{_≡_, refl, sym, ap, _∙_, subst}
 use mathlib.Core.List.{List, [], _∷_, _++_}
-use Prim.Native.Nat.{ℕ, zero, suc, _+_, _-_, _*_, _/_, _%_, _^_, _<_, _≤_}
+use Prim.Native.Nat.{ℕ, _+_, _<_}
 use native.Mathlib.Omega.{arith}
-use lib.ListN.{length, take, drop}
-use Rattle.base.specs.Bytes.{AllBytes, Block, xorFront}
+use lib.ListN.{length}
+use Rattle.base.specs.Bytes.{Block, xorFront}
 use Rattle.base.specs.Blocks.{Message, blockAt, lastIndex, tailOf, joined, assembled}
 use Rattle.base.proofs.Strings.{front-twice, front-long, front-bytes}
-use Rattle.base.proofs.Cutting.{Shaped, shaped, block-long, tail-long, again, block-block, tail-bytes, made-message, joined-same, same-size}
+use Rattle.base.proofs.Cutting.{Shaped, shaped, tail-long, again, block-block, tail-bytes, made-message, joined-same, same-size}
 use Rattle.mode.specs.Enciphering.{whereTail, enciphered, deciphered}
 use Rattle.mode.specs.Laws.{Undoes}
 

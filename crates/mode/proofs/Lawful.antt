@@ -10,7 +10,7 @@ use Rattle.base.proofs.Strings.{take-bytes, drop-bytes}
 use Rattle.ciphers.specs.Keys.{Key}
 use Rattle.mode.specs.Sealing.{betaOne, betaTwo, sealedWith, openedWith, sealed, opened}
 use Rattle.mode.specs.Bundles.{tauOf, prfKey, blkKey, sealedUnder, openedUnder}
-use Rattle.mode.specs.Laws.{OnBlocks, Undoes, Inverse, FormLaws, ModeLaws}
+use Rattle.mode.specs.Laws.{OnBlocks, Inverse, FormLaws, ModeLaws}
 use Rattle.mode.proofs.Binding.{one-lt, two-lt}
 use Rattle.mode.proofs.Undoing.{unhash-hash, hash-unhash}
 use Rattle.mode.proofs.Ciphering.{decipher-encipher, encipher-decipher}

@@ -1,7 +1,7 @@
 -- The steps of enciphering in place, and of its undoing.
 use mathlib.Core.Path.{_≡_, refl, sym, ap, _∙_, subst}
 use mathlib.Core.List.{List, [], _∷_, _++_}
-use Prim.Native.Nat.{ℕ, zero, suc, _+_, _-_, _*_, _/_, _%_, _^_, _<_, _≤_}
+use Prim.Native.Nat.{ℕ, _+_, _-_, _*_, _/_, _%_, _<_, _≤_}
 use native.Mathlib.Omega.{arith}
 use lib.ListN.{length, take, drop, length-append, length-drop}
 use borrow.Rule.Slice.PartMut.{putMid}
@@ -11,7 +11,7 @@ use Rattle.base.specs.Blocks.{Message, blockAt, lastIndex, tailOf, joined, asse
 use Rattle.base.proofs.Strings.{front-take, front-long}
 use Rattle.base.proofs.Cutting.{Shaped, shaped, block-long, tail-long, again, block-block, joined-more, joined-long, put-block, put-last, done-block, done-more}
 use Rattle.mode.specs.Enciphering.{whereTail, enciphered, deciphered, allThrough, tailMixed}
-use Rattle.mode.proofs.Ciphering.{where-block, same-message}
+use Rattle.mode.proofs.Ciphering.{same-message}
 
 abbrev pub Keeps : (List ℕ → List ℕ) → Type 0
 Keeps f = (b : List ℕ) → Block b → Block (f b)

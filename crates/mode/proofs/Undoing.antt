@@ -1,11 +1,10 @@
 -- Hashing with beta and its undoing, each the other's inverse, for every tau.
 use mathlib.Core.Path.{_≡_, refl, sym, ap, _∙_, subst}
-use mathlib.Core.List.{List, [], _∷_, _++_}
-use Prim.Native.Nat.{ℕ, zero, suc, _+_, _-_, _*_, _/_, _%_, _^_, _<_, _≤_}
+use mathlib.Core.List.{List, _++_}
+use Prim.Native.Nat.{ℕ, _+_, _-_, _^_, _<_, _≤_}
 use native.Mathlib.Omega.{arith}
-use lib.ListN.{length, take, drop}
+use lib.ListN.{length}
 use lib.Bits.{bitXor, xor-assoc, xor-self, xor-zero-r, xor-lt, xor-comm}
-use Rattle.base.specs.Bytes.{AllBytes, Block}
 use Rattle.base.specs.Numbers.{number, bytes}
 use Rattle.base.specs.Blocks.{Message, wholeBlocks, blockAt, lastIndex, tailOf, joined, assembled, endedBy}
 use Rattle.base.proofs.Strings.{xor-twice}
@@ -13,7 +12,7 @@ use Rattle.base.proofs.Digits.{bytes-long, bytes-block, block-again, element-ag
 use Rattle.base.proofs.Cutting.{Shaped, shaped, block-long, tail-long, again, block-block, tail-bytes, ended-block, made-message, joined-same, same-size}
 use Rattle.field.specs.Field.{fieldProduct, fieldPower}
 use Rattle.mode.specs.Hash.{sumTo, hashOf, spread, hashed, heldHash, halfUnhashed, unhashed}
-use Rattle.mode.proofs.Horner.{before, before-same, before-lt, multiple-lt, sum-same}
+use Rattle.mode.proofs.Horner.{before, before-same, before-lt, multiple-lt}
 
 -- the hash of a message that was assembled
 pub hash-is : (tau : ℕ) (m : List ℕ) → 16 ≤ length m → hashOf tau m ≡ bitXor (before tau (λ i. number (blockAt i m)) (lastIndex m) (number (endedBy 0x01 (tailOf m)))) (number (blockAt (lastIndex m) m))

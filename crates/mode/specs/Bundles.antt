@@ -1,9 +1,9 @@
 -- Key bundles: tau, the prf key and the blk key, joined; and sealing and opening under one, by a cipher's functions
 -- of key and block and its key length.
-use mathlib.Core.List.{List, _++_}
+use mathlib.Core.List.{List}
 use Prim.Native.Nat.{ℕ, _+_}
-use lib.ListN.{length, take, drop}
-use Rattle.base.specs.Numbers.{number, bytes}
+use lib.ListN.{take, drop}
+use Rattle.base.specs.Numbers.{number}
 use Rattle.mode.specs.Sealing.{sealed, opened}
 
 -- tau: the first sixteen bytes as an element

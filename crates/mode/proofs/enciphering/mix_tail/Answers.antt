@@ -1,10 +1,8 @@
-use borrow.Author.Needs.{needs}
-use mathlib.Core.Path.{_≡_, refl, _∙_, ap}
-use mathlib.Core.List.{List}
-use Prim.Native.Nat.{ℕ, _+_, _-_, _*_, _/_, _%_}
+use mathlib.Core.Path.{_≡_, _∙_, ap}
+use Prim.Native.Nat.{ℕ, _+_, _-_, _*_}
 use native.Mathlib.Omega.{arith}
-use lib.ListN.{length, take, drop}
-use Rattle.base.specs.Blocks.{lastIndex, blockAt}
+use lib.ListN.{take, drop}
+use Rattle.base.specs.Blocks.{lastIndex}
 use Rattle.mode.proofs.Steps.{mixed-in}
 use Rattle.mode.proofs.enciphering.mix_tail.Needs as need
 

@@ -1,11 +1,9 @@
-use borrow.Author.Needs.{needs}
-use mathlib.Core.Path.{_≡_, _∙_, ap, refl, sym}
-use Prim.Native.Nat.{ℕ, _+_, _-_, _*_, _/_, _<_, _^_}
-use native.Mathlib.Omega.{arith}
+use mathlib.Core.Path.{_∙_, ap, refl}
+use Prim.Native.Nat.{ℕ}
 use mathlib.Core.List.{List}
 use lib.Bits.{bitXor}
-use Rattle.base.specs.Numbers.{number, bytes}
-use Rattle.base.specs.Blocks.{blockAt, lastIndex, tailOf, joined, assembled}
+use Rattle.base.specs.Numbers.{bytes}
+use Rattle.base.specs.Blocks.{lastIndex, tailOf, assembled}
 use Rattle.mode.specs.Hash.{spread, hashed}
 use Rattle.base.proofs.Digits.{bytes-long}
 use Rattle.base.proofs.Cutting.{done-last}

@@ -1,12 +1,10 @@
-use borrow.Author.Needs.{needs}
-use mathlib.Core.Path.{_≡_, _∙_, ap, refl, sym}
-use Prim.Native.Nat.{ℕ, _+_, _-_, _*_, _/_, _<_, _^_}
-use native.Mathlib.Omega.{arith}
+use mathlib.Core.Path.{_≡_, _∙_, ap, refl}
+use Prim.Native.Nat.{ℕ}
 use mathlib.Core.List.{List}
 use lib.Bits.{bitXor}
-use Rattle.base.specs.Numbers.{number, bytes}
-use Rattle.base.specs.Blocks.{blockAt, lastIndex, tailOf, joined, assembled, withBlock}
-use Rattle.mode.specs.Hash.{spread, unhashed, hashOf, heldHash, halfUnhashed}
+use Rattle.base.specs.Numbers.{bytes}
+use Rattle.base.specs.Blocks.{lastIndex, tailOf, assembled, withBlock}
+use Rattle.mode.specs.Hash.{spread, unhashed, hashOf, heldHash}
 use Rattle.base.proofs.Digits.{bytes-long}
 use Rattle.base.proofs.Cutting.{done-last, put-last}
 use Rattle.mode.proofs.hashing.unhash_with.Needs as need

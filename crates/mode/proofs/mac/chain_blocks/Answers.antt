@@ -1,4 +1,3 @@
-use borrow.Author.Needs.{needs}
 use mathlib.Core.Path.{_≡_, sym, _∙_, ap}
 use mathlib.Core.List.{List}
 use Prim.Native.Nat.{ℕ, _+_, _-_, _*_}
@@ -6,7 +5,6 @@ use native.Mathlib.Omega.{arith}
 use lib.ListN.{take, drop}
 use Rattle.base.specs.Bytes.{xorFront}
 use Rattle.base.specs.Blocks.{blockAt}
-use Rattle.mode.specs.Cmac.{chained}
 use Rattle.mode.proofs.Chaining.{chained-none, chained-more}
 use Rattle.mode.proofs.mac.chain_blocks.Needs as need
 

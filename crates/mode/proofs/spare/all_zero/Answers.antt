@@ -1,5 +1,5 @@
 use borrow.Author.Needs.{needs}
-use mathlib.Core.Path.{_≡_, refl, sym, _∙_, ap}
+use mathlib.Core.Path.{refl, sym, _∙_, ap}
 use Rattle.std.proofs.shelf.Lists.{take-all}
 use Rattle.mode.specs.Calls.{allZero}
 use Rattle.mode.proofs.Genuine.{zero-more, zero-stop}
