@@ -1,11 +1,11 @@
 -- The laws of byte strings.
 use mathlib.Core.Path.{_≡_, refl, sym, ap, _∙_, subst}
 use mathlib.Core.List.{List, [], _∷_, _++_, reverse}
-use mathlib.Core.Logic.{_⊎_, inl, inr}
-use Prim.Native.Nat.{ℕ, zero, suc, _+_, _-_, _<_, _≤_}
+use mathlib.Core.Logic.{inl, inr}
+use Prim.Native.Nat.{ℕ, zero, suc, _+_, _-_, _<_}
 use native.Mathlib.Omega.{arith}
 use native.Mathlib.Numerals.{add-one}
-use lib.ListN.{length, take, drop, getD, set, length-take, replicate}
+use lib.ListN.{length, take, drop, getD, set, length-take}
 use lib.Bits.{bitXor, xor-assoc, xor-self, xor-zero-r, xor-lt}
 use Rattle.std.proofs.shelf.Lists.{getD-take, getD-drop, getD-past, getD-append-left, getD-append-right, getD-reverse, length-reverse}
 use Rattle.std.proofs.shelf.Tests.{cases-lt}

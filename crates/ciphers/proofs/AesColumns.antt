@@ -1,14 +1,14 @@
 -- Mixing a column, and its undoing: a row of rows is a row, whose factors are computed.
 use mathlib.Core.Path.{_≡_, refl, sym, ap, _∙_}
 use mathlib.Core.List.{List, [], _∷_}
-use Prim.Native.Nat.{ℕ, zero, suc, _+_, _*_, _^_, _<_}
+use Prim.Native.Nat.{ℕ, zero, suc, _^_, _<_}
 use native.Mathlib.Omega.{arith}
 use lib.Bits.{bitXor, xor-zero-r, xor-lt}
 use lib.Dec.{T, ltb, ltb→lt}
 use lib.ListN.{length, getD}
 use Rattle.std.proofs.shelf.Counted.{fill-by-all}
 use Rattle.base.specs.Bytes.{AllBytes}
-use Rattle.base.proofs.Doubling.{swap, twice, mulBits, mul, mul-sum-left, mul-sum-right, mul-associates, mul-lt}
+use Rattle.base.proofs.Doubling.{swap, twice, mulBits, mul, mul-sum-left, mul-sum-right, mul-associates}
 use Rattle.ciphers.specs.AesField.{product}
 use Rattle.ciphers.specs.AesSteps.{row, mixColumn, invMixColumn}
 use Rattle.ciphers.proofs.AesEntries.{both, both-left, both-right}

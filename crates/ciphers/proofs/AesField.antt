@@ -1,9 +1,9 @@
 -- Products in the byte field: by doubling, and inverses by squaring.
-use mathlib.Core.Path.{_≡_, refl, sym, ap, _∙_, subst}
+use mathlib.Core.Path.{_≡_, refl, sym, ap, _∙_}
 use Prim.Native.Nat.{ℕ, zero, suc, _+_, _*_, _/_, _%_, _^_, _<_}
 use native.Mathlib.Nat.{mod-eq-of-lt}
 use native.Mathlib.Omega.{arith}
-use lib.Bits.{bitXor, xor-zero-r, xor-lt}
+use lib.Bits.{bitXor}
 use Rattle.base.specs.Polynomials.{scaled, carryless, remainder, times, power, Ring}
 use Rattle.base.proofs.Doubling.{twice, mul, mul-lt}
 use Rattle.base.proofs.Rings as rings

@@ -1,17 +1,16 @@
 -- The expanded key: its length, its bytes, and that it begins with the key.
-use mathlib.Core.Path.{_≡_, refl, sym, ap, _∙_}
-use mathlib.Core.Bool.{Bool, true, false, cond, _&&_}
-use mathlib.Core.List.{List, [], _∷_, _++_, map}
-use Prim.Native.Nat.{ℕ, zero, suc, _+_, _-_, _*_, _/_, _%_, _<_, _≤_}
+use mathlib.Core.Path.{_≡_, _∙_}
+use mathlib.Core.Bool.{Bool, true, false, cond}
+use mathlib.Core.List.{List, [], _∷_}
+use Prim.Native.Nat.{ℕ, zero, suc, _+_, _-_, _*_, _/_, _<_, _≤_}
 use native.Mathlib.Omega.{arith}
-use lib.Dec.{eqb, ltb}
 use lib.ListN.{length, take, drop, length-append, length-drop}
 use Rattle.std.proofs.shelf.Lists.{length-take-le, take-append-le, take-all}
 use Rattle.base.specs.Bytes.{AllBytes, xorFront}
 use Rattle.base.proofs.Strings.{take-bytes, drop-bytes, append-bytes, front-long, front-bytes}
 use Rattle.ciphers.specs.AesField.{substitution}
 use Rattle.ciphers.specs.AesSteps.{word}
-use Rattle.ciphers.specs.AesSchedule.{rotWord, subWord, roundConstant, temp, nextWord, expanded, keyExpansion, roundsOf}
+use Rattle.ciphers.specs.AesSchedule.{rotWord, subWord, roundConstant, turnedAt, substitutedAt, temp, nextWord, expanded, keyExpansion, roundsOf}
 use Rattle.ciphers.proofs.AesField.{power-lt}
 use Rattle.ciphers.proofs.AesTables.{substitution-lt}
 use Rattle.ciphers.proofs.AesSteps.{map-fit, word-fit}
@@ -32,9 +31,9 @@ temp-fit nk i w h =
     let sub : (v : List ℕ) → AllBytes v → AllBytes (subWord v) = λ v g. map-fit substitution substitution-lt v g in
     let rot : AllBytes (rotWord w) = append-bytes (drop 1 w) (take 1 w) (drop-bytes 1 w h) (take-bytes 1 w h) in
     let rc : AllBytes (roundConstant (i / nk) ∷ []) = single-fit (roundConstant (i / nk)) (power-lt 2 (i / nk - 1)) in
-    either-fit (eqb (i % nk) 0) (xorFront (subWord (rotWord w)) (roundConstant (i / nk) ∷ [])) (cond (ltb 6 nk && eqb (i % nk) 4) (subWord w) w)
+    either-fit (turnedAt nk i) (xorFront (subWord (rotWord w)) (roundConstant (i / nk) ∷ [])) (cond (substitutedAt nk i) (subWord w) w)
     (front-bytes (subWord (rotWord w)) (roundConstant (i / nk) ∷ []) (sub (rotWord w) rot) rc)
-    (either-fit (ltb 6 nk && eqb (i % nk) 4) (subWord w) w (sub w h) h)
+    (either-fit (substitutedAt nk i) (subWord w) w (sub w h) h)
 
 expanded-fit : (nk : ℕ) (key : List ℕ) → AllBytes key → (n : ℕ) → AllBytes (expanded nk key n)
 unfolding expanded nextWord

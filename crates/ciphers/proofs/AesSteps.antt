@@ -3,11 +3,11 @@ use mathlib.Core.Path.{_≡_, refl, sym, ap, _∙_}
 use mathlib.Core.List.{List, [], _∷_, _++_, map}
 use Prim.Native.Nat.{ℕ, zero, suc, _+_, _-_, _*_, _/_, _%_, _<_}
 use native.Mathlib.Omega.{arith}
-use lib.ListN.{length, getD, take, drop, length-map, length-drop}
+use lib.ListN.{length, getD, drop, length-map, length-drop}
 use Rattle.std.specs.Iters.{counting}
 use Rattle.std.proofs.shelf.Counted.{fill-by-all}
 use Rattle.std.proofs.shelf.Lists.{length-take-le}
-use Rattle.base.specs.Bytes.{AllBytes, Block, xorFront}
+use Rattle.base.specs.Bytes.{AllBytes, Block}
 use Rattle.base.proofs.Strings.{take-bytes, drop-bytes, append-bytes, front-long, front-bytes}
 use Rattle.ciphers.specs.AesField.{substitution, invSubstitution}
 use Rattle.ciphers.specs.AesSteps.{at, state, subBytes, invSubBytes, shiftRows, invShiftRows, mixColumn, invMixColumn, word, columnwise, mixColumns, invMixColumns, addRoundKey}

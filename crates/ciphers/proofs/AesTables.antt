@@ -1,20 +1,18 @@
 -- The substitution tables keep their rule at each entry: one computed test over each table, carried to its entries.
-use mathlib.Core.Path.{_≡_, refl, sym, ap, _∙_, subst}
-use mathlib.Core.Bool.{Bool, true, false}
-use mathlib.Core.List.{List, [], _∷_}
-use Prim.Native.Nat.{ℕ, zero, suc, _+_, _<_}
+use mathlib.Core.Path.{_≡_, sym, ap, _∙_, subst}
+use mathlib.Core.Bool.{Bool}
+use Prim.Native.Nat.{ℕ, zero, suc, _<_}
 use native.Mathlib.Omega.{arith}
 use native.Mathlib.Numerals.{one-add}
 use lib.Bits.{bitXor, xor-lt}
 use lib.Dec.{T, eqb, eqb→eq, ltb, ltb→lt}
-use lib.ListN.{length, getD}
+use lib.ListN.{getD}
 use Rattle.std.specs.Iters.{counting}
 use Rattle.std.proofs.shelf.Counted.{getD-counting}
-use Rattle.base.specs.Polynomials.{scaled}
 use Rattle.base.proofs.Doubling.{twice, mulBits, mul}
 use Rattle.ciphers.specs.AesField.{product, inverse, turned, affine, invAffine, substitution, invSubstitution}
 use Rattle.ciphers.specs.AesTables.{substitutionTable, invSubstitutionTable}
-use Rattle.ciphers.proofs.AesEntries.{every, at}
+use Rattle.ciphers.proofs.AesEntries.{at}
 use Rattle.ciphers.proofs.AesField.{product-mul, bySquares, inverse-squares, inverse-lt}
 
 -- ---- a byte times its inverse

@@ -6,6 +6,8 @@ pub mod AesSteps
 pub mod AesSchedule
 pub mod AesRounds
 pub mod AesLoops
+pub mod AesWords
+pub mod AesMade
 pub mod WordLaws
 pub mod SpeckRounds
 pub mod SpeckUndoing

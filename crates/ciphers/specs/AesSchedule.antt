@@ -1,5 +1,5 @@
 -- The key expansion of AES (FIPS 197), for keys of nk words of four bytes: 4, 6 or 8 words.
-use mathlib.Core.Bool.{cond, _&&_}
+use mathlib.Core.Bool.{Bool, cond, _&&_}
 use mathlib.Core.List.{List, [], _∷_, _++_, map}
 use Prim.Native.Nat.{ℕ, zero, suc, _+_, _-_, _*_, _/_, _%_}
 use lib.Dec.{eqb, ltb}
@@ -21,12 +21,19 @@ subWord w = map substitution w
 unfoldable pub roundConstant : ℕ → ℕ
 roundConstant j = power 8 0x11b 2 (j - 1)
 
--- what word i - nk is added to, from word i - 1: turned, substituted and with a round constant at each multiple of nk;
--- where nk is above 6, substituted at each i that is 4 modulo nk
+-- whether word i comes from a turned word: at each multiple of nk
+abbrev pub turnedAt : ℕ → ℕ → Bool
+turnedAt nk i = eqb (i % nk) 0
+
+-- whether it comes from a word that is substituted and not turned: where nk is above 6, at each i that is 4 modulo nk
+abbrev pub substitutedAt : ℕ → ℕ → Bool
+substitutedAt nk i = ltb 6 nk && eqb (i % nk) 4
+
+-- what is added to word i - nk to give word i, from word i - 1
 unfoldable pub temp : ℕ → ℕ → List ℕ → List ℕ
 temp nk i w =
-    cond (eqb (i % nk) 0) (xorFront (subWord (rotWord w)) (roundConstant (i / nk) ∷ []))
-    (cond (ltb 6 nk && eqb (i % nk) 4) (subWord w) w)
+    cond (turnedAt nk i) (xorFront (subWord (rotWord w)) (roundConstant (i / nk) ∷ []))
+    (cond (substitutedAt nk i) (subWord w) w)
 
 -- word i, from the words before it
 unfoldable pub nextWord : ℕ → ℕ → List ℕ → List ℕ

@@ -10,13 +10,34 @@ use std::test::*;
 #[test]
 fn dimensions() -> Result<(), Fail> {
     let mut memory = [7u8; 98];
-    check_eq(Chain::set_out(&mut memory, 0, 70, 3), Err(Refusal::BadDimensions))?;
-    check_eq(Chain::set_out(&mut memory, 65, 70, 3), Err(Refusal::BadDimensions))?;
-    check_eq(Chain::set_out(&mut memory, 2, 15, 3), Err(Refusal::BadDimensions))?;
-    check_eq(Chain::set_out(&mut memory, 2, 1001, 3), Err(Refusal::BadDimensions))?;
-    check_eq(Chain::set_out(&mut memory, 2, 70, 0), Err(Refusal::BadDimensions))?;
-    check_eq(Chain::set_out(&mut memory, 2, 70, 256), Err(Refusal::BadDimensions))?;
-    check_eq(Chain::set_out(&mut memory, 2, 70, 2), Err(Refusal::BadDimensions))?;
+    check_eq(
+        Chain::set_out(&mut memory, 0, 70, 3),
+        Err(Refusal::BadDimensions),
+    )?;
+    check_eq(
+        Chain::set_out(&mut memory, 65, 70, 3),
+        Err(Refusal::BadDimensions),
+    )?;
+    check_eq(
+        Chain::set_out(&mut memory, 2, 15, 3),
+        Err(Refusal::BadDimensions),
+    )?;
+    check_eq(
+        Chain::set_out(&mut memory, 2, 1001, 3),
+        Err(Refusal::BadDimensions),
+    )?;
+    check_eq(
+        Chain::set_out(&mut memory, 2, 70, 0),
+        Err(Refusal::BadDimensions),
+    )?;
+    check_eq(
+        Chain::set_out(&mut memory, 2, 70, 256),
+        Err(Refusal::BadDimensions),
+    )?;
+    check_eq(
+        Chain::set_out(&mut memory, 2, 70, 2),
+        Err(Refusal::BadDimensions),
+    )?;
     check_eq(memory, [7u8; 98]).note("a declined call leaves the memory")?;
     check_eq(Chain::set_out(&mut memory, 2, 70, 3), Ok(0))?;
     check_eq(memory, [0u8; 98])
@@ -41,17 +62,25 @@ fn damage() -> Result<(), Fail> {
     check_eq(damaged(0, 1, 0, 1), Ok(0))?;
     check_eq(damaged(4, 255, 4, 255), Ok(0)).note("the row may be anything")?;
     check_eq(damaged(0, 4, 0, 4), Err(Refusal::MalformedMemory)).note("a head beyond the cells")?;
-    check_eq(damaged(0, 0, 0, 0), Err(Refusal::MalformedMemory)).note("cells that no head reaches")?;
+    check_eq(damaged(0, 0, 0, 0), Err(Refusal::MalformedMemory)).note(
+        "cells that no head reaches",
+    )?;
     check_eq(damaged(1, 1, 1, 1), Err(Refusal::MalformedMemory)).note("one chain under two heads")?;
     check_eq(damaged(1, 2, 1, 2), Err(Refusal::MalformedMemory)).note("a cell on two chains")?;
     check_eq(damaged(2, 1, 2, 1), Err(Refusal::MalformedMemory)).note("a ring of one cell")?;
     check_eq(damaged(34, 1, 35, 30), Err(Refusal::MalformedMemory)).note("a ring of two cells")?;
-    check_eq(damaged(34, 9, 35, 30), Err(Refusal::MalformedMemory)).note("a next cell beyond the cells")?;
+    check_eq(damaged(34, 9, 35, 30), Err(Refusal::MalformedMemory)).note(
+        "a next cell beyond the cells",
+    )?;
     check_eq(damaged(35, 0, 35, 0), Err(Refusal::MalformedMemory)).note("no byte used")?;
     check_eq(damaged(35, 31, 35, 31), Err(Refusal::MalformedMemory)).note("31 bytes used")?;
     check_eq(damaged(3, 29, 3, 29), Err(Refusal::MalformedMemory)).note("not full before the end")?;
-    check_eq(damaged(52, 1, 52, 1), Err(Refusal::MalformedMemory)).note("a byte behind the used ones")?;
-    check_eq(damaged(66, 1, 66, 1), Err(Refusal::MalformedMemory)).note("a free cell that is not zero")
+    check_eq(damaged(52, 1, 52, 1), Err(Refusal::MalformedMemory)).note(
+        "a byte behind the used ones",
+    )?;
+    check_eq(damaged(66, 1, 66, 1), Err(Refusal::MalformedMemory)).note(
+        "a free cell that is not zero",
+    )
 }
 
 // Fills a chain to its last cell and empties it in another order.

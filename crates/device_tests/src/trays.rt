@@ -11,11 +11,26 @@ use std::test::*;
 #[test]
 fn dimensions() -> Result<(), Fail> {
     let mut memory = [7u8; 44];
-    check_eq(Tray::set_out(&mut memory, 0, 20), Err(Refusal::BadDimensions))?;
-    check_eq(Tray::set_out(&mut memory, 65, 20), Err(Refusal::BadDimensions))?;
-    check_eq(Tray::set_out(&mut memory, 2, 15), Err(Refusal::BadDimensions))?;
-    check_eq(Tray::set_out(&mut memory, 2, 1001), Err(Refusal::BadDimensions))?;
-    check_eq(Tray::set_out(&mut memory, 2, 19), Err(Refusal::BadDimensions))?;
+    check_eq(
+        Tray::set_out(&mut memory, 0, 20),
+        Err(Refusal::BadDimensions),
+    )?;
+    check_eq(
+        Tray::set_out(&mut memory, 65, 20),
+        Err(Refusal::BadDimensions),
+    )?;
+    check_eq(
+        Tray::set_out(&mut memory, 2, 15),
+        Err(Refusal::BadDimensions),
+    )?;
+    check_eq(
+        Tray::set_out(&mut memory, 2, 1001),
+        Err(Refusal::BadDimensions),
+    )?;
+    check_eq(
+        Tray::set_out(&mut memory, 2, 19),
+        Err(Refusal::BadDimensions),
+    )?;
     check_eq(memory, [7u8; 44]).note("a declined call leaves the memory")?;
     check_eq(Tray::set_out(&mut memory, 2, 20), Ok(0))?;
     check_eq(memory, [0u8; 44])
@@ -57,11 +72,17 @@ fn calls() -> Result<(), Fail> {
     check_eq(tray.write(1, &mut row), Ok(0))?;
     check_eq(row, [0u8; 17])?;
     let mut buffer = [9u8; 20];
-    check_eq(tray.read(1, &mut buffer[0..16]), Err(Refusal::BufferTooShort))?;
+    check_eq(
+        tray.read(1, &mut buffer[0..16]),
+        Err(Refusal::BufferTooShort),
+    )?;
     check_eq(find(&mut tray, b"\x05\x05", &mut buffer), Ok(Some(1)))?;
     check_eq(buffer, [0u8; 20])?;
     check_eq(find(&mut tray, b"\x05\x06", &mut buffer), Ok(None))?;
-    check_eq(find(&mut tray, b"", &mut buffer[0..19]), Err(Refusal::BufferTooShort))?;
+    check_eq(
+        find(&mut tray, b"", &mut buffer[0..19]),
+        Err(Refusal::BufferTooShort),
+    )?;
     check_eq(tray.clear(1), Ok(0))?;
     check_eq(tray.clear(1), Err(Refusal::EmptySlot))
 }

@@ -3,7 +3,7 @@ ghost use mathlib.Core.Path.{_≡_};
 ghost use Prim.Native.Nat.{_-_, _*_, _/_, _%_, _<_, _≤_};
 ghost use lib.ListN.{length};
 ghost use Rattle.ciphers.specs.AesSteps.{word};
-ghost use Rattle.ciphers.specs.AesSchedule.{rotWord, subWord, roundConstant, temp, nextWord, expanded};
+ghost use Rattle.ciphers.specs.AesSchedule.{rotWord, subWord, roundConstant, turnedAt, substitutedAt, temp, nextWord, expanded};
 use super::field::double;
 use super::tables::substitute;
 use base::xor_front;
@@ -50,16 +50,32 @@ fn rot_word(w: [u8; 4]) -> [u8; 4]
     [w[1], w[2], w[3], w[0]]
 }
 
+// Whether word i comes from a turned word, with a round constant.
+fn is_turned(nk: usize, i: usize) -> bool
+    requires { ⌜ 0 < nk ⌝ }
+    ensures { λ r. ⌜ r ≡ turnedAt nk i ⌝ }
+{
+    i % nk == 0
+}
+
+// Whether word i comes from a word that is substituted and not turned, as long keys have it.
+fn is_substituted(nk: usize, i: usize) -> bool
+    requires { ⌜ 0 < nk ⌝ }
+    ensures { λ r. ⌜ r ≡ substitutedAt nk i ⌝ }
+{
+    nk > 6 && i % nk == 4
+}
+
 // What is added to word i - nk to give word i, from word i - 1.
 fn temp_word(nk: usize, i: usize, last: [u8; 4]) -> [u8; 4]
     requires { ⌜ 0 < nk ⌝ }
     ensures { λ r. ⌜ r ≡ temp nk i last ⌝ }
 {
-    if i % nk == 0 {
+    if is_turned(nk, i) {
         let mut turned = sub_word(rot_word(last));
         turned[0] ^= round_constant(i / nk);
         turned
-    } else if nk > 6 && i % nk == 4 {
+    } else if is_substituted(nk, i) {
         sub_word(last)
     } else {
         last

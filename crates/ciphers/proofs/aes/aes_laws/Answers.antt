@@ -1,5 +1,4 @@
 use mathlib.Core.Path.{refl}
-use Rattle.ciphers.specs.Aes.{AesLaws}
 use Rattle.ciphers.proofs.AesField.{byte-ring}
 use Rattle.ciphers.proofs.AesTables.{times-inverse, inverse-zero, entry, inv-entry, substitution-undone, substitution-redone}
 use Rattle.ciphers.proofs.AesColumns.{mixing-undone, mixing-redone}

@@ -5,7 +5,7 @@ use mathlib.Core.List.{List}
 use Prim.Native.Nat.{ℕ, _+_, _-_, _*_, _/_}
 use lib.ListN.{length, take, drop}
 use Rattle.ciphers.specs.Aes.{invRounds}
-use Rattle.ciphers.proofs.AesLoops.{inv-rounds-more, inv-cipher-made}
+use Rattle.ciphers.proofs.AesMade.{inv-rounds-more, inv-cipher-made}
 use Rattle.ciphers.proofs.aes.rounds.decrypt_block.Needs as need
 
 pub loop-i-holds : need.loop-i-holds

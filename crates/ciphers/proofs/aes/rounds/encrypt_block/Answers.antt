@@ -3,7 +3,7 @@ use native.Mathlib.Omega.{arith}
 use mathlib.Core.Path.{_≡_, sym, ap, _∙_}
 use Prim.Native.Nat.{ℕ, _+_, _-_, _*_, _/_}
 use lib.ListN.{length, take, drop}
-use Rattle.ciphers.proofs.AesLoops.{rounds-none, rounds-more, cipher-made}
+use Rattle.ciphers.proofs.AesMade.{rounds-none, rounds-more, cipher-made}
 use Rattle.ciphers.proofs.aes.rounds.encrypt_block.Needs as need
 
 pub loop-i-holds : need.loop-i-holds

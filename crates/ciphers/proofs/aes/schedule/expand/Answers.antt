@@ -3,9 +3,9 @@ use native.Mathlib.Omega.{arith}
 use mathlib.Core.Path.{_≡_, refl, ap, _∙_}
 use mathlib.Core.List.{List, _++_}
 use Prim.Native.Nat.{ℕ, _+_, _-_, _*_, _/_, _<_}
-use lib.ListN.{length, take, drop, length-append, length-drop}
+use lib.ListN.{length, drop, length-append, length-drop}
 use Rattle.ciphers.specs.AesSchedule.{expanded}
-use Rattle.ciphers.proofs.AesLoops.{words-none, word-next, words-more, words-all}
+use Rattle.ciphers.proofs.AesWords.{words-none, word-next, words-more, words-all}
 use Rattle.ciphers.proofs.aes.schedule.expand.Needs as need
 
 pub loop-i-holds : need.loop-i-holds

@@ -1,4 +1,3 @@
-use borrow.Author.Needs.{needs}
 use Rattle.ciphers.specs.AesSchedule.{nextWord}
 use Rattle.ciphers.proofs.aes.schedule.next_word.Needs as need
 

@@ -4,7 +4,7 @@ use mathlib.Core.Path.{refl, ap, _∙_}
 use Rattle.base.specs.Polynomials.{power}
 use Rattle.ciphers.specs.AesField.{product}
 use Rattle.ciphers.specs.AesSchedule.{roundConstant}
-use Rattle.ciphers.proofs.AesLoops.{constant-more, constant-same}
+use Rattle.ciphers.proofs.AesWords.{constant-more, constant-same}
 use Rattle.ciphers.proofs.aes.schedule.round_constant.Needs as need
 
 pub loop-i-holds : need.loop-i-holds

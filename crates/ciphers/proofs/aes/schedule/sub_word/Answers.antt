@@ -1,5 +1,5 @@
 use borrow.Author.Needs.{needs}
-use mathlib.Core.Path.{ap, _∙_}
+use mathlib.Core.Path.{ap}
 use Rattle.ciphers.specs.AesSchedule.{subWord}
 use Rattle.ciphers.proofs.AesLoops.{four-spelled}
 use Rattle.ciphers.proofs.aes.schedule.sub_word.Needs as need

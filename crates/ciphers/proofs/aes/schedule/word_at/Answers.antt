@@ -1,5 +1,4 @@
 use borrow.Author.Needs.{needs}
-use native.Mathlib.Omega.{arith}
 use Prim.Native.Nat.{_*_}
 use Rattle.ciphers.proofs.AesLoops.{four-read}
 use Rattle.ciphers.proofs.aes.schedule.word_at.Needs as need

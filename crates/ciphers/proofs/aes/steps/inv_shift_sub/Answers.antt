@@ -11,7 +11,7 @@ pub loop-i-holds : need.loop-i-holds
 loop-i-holds c = λ k h. absurd (omega arith)
 
 pub loop-i-again : need.loop-i-again
-loop-i-again c = filled-more (λ k. invSubstitution (getD (c .args .from .now) (13 * k % 16) 0)) (c .loop-i .to) (c .loop-i .i) (c .inv-substitute .result) (search needs) (c .inv-substitute .ensures) (c .loop-i .inv)
+loop-i-again c = filled-more (λ k. invSubstitution (getD (c .args .from .now) (13 * k % 16) 0)) (c .loop-i .to) (c .loop-i .i) _ (search needs) (search needs) (c .loop-i .inv)
 
 pub returns : need.returns
 returns c = filled-all (λ k. invSubstitution (getD (c .args .from .now) (13 * k % 16) 0)) (c .loop-i .to) (c .loop-i .i) (search needs) (search needs) (c .loop-i .inv) ∙ inv-shift-sub (c .args .from .now)
