@@ -17,14 +17,20 @@ from pathlib import Path
 sys.dont_write_bytecode = True
 
 import random_sealer
+import random_screens
 import random_slots
+import screens
 import sealer
 import slots
 import vectors
 from sessions import Session
 
 ROOT = Path(__file__).resolve().parent.parent
-PROGRAMS = {"sealer": (sealer, random_sealer), "slots": (slots, random_slots)}
+PROGRAMS = {
+    "sealer": (sealer, random_sealer),
+    "slots": (slots, random_slots),
+    "screens": (screens, random_screens),
+}
 TIME_LIMIT = 120
 SHOWN_DIFFERENCES = 10
 SHOWN_LENGTH = 400
@@ -56,7 +62,7 @@ class Part:
                       expected=str(len(expected)), got=str(len(got)))
         for number, ((line, answer), got_line) in enumerate(zip(expected, got), 1):
             self.compared += 1
-            self.kinds[answer.text.split(" ")[0]] += 1
+            self.kinds[_kind(answer.text)] += 1
             if not answer.accepts(got_line):
                 self.fail("%s, command %d differs" % (where, number),
                           command=line, expected=answer.text, got=got_line)
@@ -71,6 +77,12 @@ class Part:
         print("%s: %d compared%s%s, %d wrong" % (
             self.name, self.compared, " (%s)" % kinds if kinds else "", self.note, self.wrong))
         return self.compared > 0 and self.wrong == 0
+
+
+def _kind(text):
+    """The word an answer is counted under; a repeated call is left out."""
+    text = text.rpartition(" : ")[2]
+    return text if text == "out of turn" else text.split(" ")[0]
 
 
 def _shortened(text):
@@ -109,6 +121,7 @@ def check_stored(name):
     session = Session(PROGRAMS[name][0].Reader())
     for line in commands:
         session.say(line)
+    session.end()
     part.compare("stored session", session, output)
     return part
 

@@ -1,4 +1,4 @@
-"""Lines of words in, answers out: what both command readers share."""
+"""Lines of words in, answers out: what the command readers share."""
 
 import re
 import sys
@@ -8,6 +8,7 @@ from refusals import Declined
 _HEX = re.compile(r"(?:[0-9a-fA-F]{2})+")
 _NUMBER = re.compile(r"[0-9]+")
 _LARGEST_NUMBER = 2**64 - 1
+LONGEST_BUFFER = 70000
 
 
 class NoCommand(Exception):
@@ -60,6 +61,13 @@ def parse_number(word):
     return int(digits)
 
 
+def parse_buffer_length(word):
+    length = parse_number(word)
+    if length > LONGEST_BUFFER:
+        raise NoCommand("buffer too long")
+    return length
+
+
 def take(words, count):
     """The words after the first, which must be so many."""
     if len(words) != count + 1:
@@ -80,9 +88,14 @@ def answer(reader, line):
         return Answer("error %s" % reason)
 
 
+def last_answers(reader):
+    """What a reader has to say at the end of the input, mostly nothing."""
+    return reader.ending() if hasattr(reader, "ending") else []
+
+
 def full_answers(reader, lines):
-    found = (answer(reader, line) for line in lines)
-    return [one for one in found if one is not None]
+    found = [answer(reader, line) for line in lines]
+    return [one for one in found if one is not None] + last_answers(reader)
 
 
 def texts(reader, lines):

@@ -144,14 +144,18 @@ def check_message(message):
     decline_if(not BLOCK <= len(message) <= LONGEST_MESSAGE, Refusal.WrongLength)
 
 
+def check_bundle(kind, bundle):
+    decline_if(len(bundle) != BLOCK + 2 * kind.key_length, Refusal.WrongKeyLength)
+
+
 class _Keys:
     """A bundle taken apart, after the checks that sealing and opening share."""
 
     def __init__(self, kind, bundle, nonce, ad, message):
-        length = kind.key_length
-        decline_if(len(bundle) != BLOCK + 2 * length, Refusal.WrongKeyLength)
+        check_bundle(kind, bundle)
         decline_if(max(len(nonce), len(ad)) > LONGEST_CONTEXT, Refusal.ContextTooLong)
         check_message(message)
+        length = kind.key_length
         self.tau = bundle[:BLOCK]
         prf = kind(bundle[BLOCK:BLOCK + length])
         self.cipher = kind(bundle[BLOCK + length:])

@@ -20,6 +20,11 @@ class Session:
             self.commands.append((line, answer))
         return answer
 
+    def end(self):
+        """End the input, after which some programs print more lines."""
+        for answer in commands.last_answers(self.reader):
+            self.commands.append(("(end of input)", answer))
+
 
 class Deck:
     """Deals values in random order, each once before any comes again."""

@@ -7,17 +7,10 @@ to `memory` on a chain therefore accept every right line.
 
 import commands
 import devices
-from commands import Answer, NoCommand, parse_hex, parse_number, show_hex, take
+from commands import (
+    Answer, NoCommand, parse_buffer_length, parse_hex, parse_number, show_hex, take
+)
 from refusals import Declined
-
-LONGEST_BUFFER = 70000
-
-
-def _buffer_length(word):
-    length = parse_number(word)
-    if length > LONGEST_BUFFER:
-        raise NoCommand("buffer too long")
-    return length
 
 
 class Reader:
@@ -59,7 +52,7 @@ def _write(device, slot, row):
 
 
 def _read(device, slot, buffer_length):
-    row = device.read(parse_number(slot), _buffer_length(buffer_length))
+    row = device.read(parse_number(slot), parse_buffer_length(buffer_length))
     return Answer("ok %d %s" % (len(row), show_hex(row)))
 
 
@@ -78,7 +71,7 @@ def _fits(device, slot, length):
 
 
 def _find(device, start, buffer_length):
-    matches = device.find(parse_hex(start), _buffer_length(buffer_length))
+    matches = device.find(parse_hex(start), parse_buffer_length(buffer_length))
     if not matches:
         return Answer("ok none")
     right = ["ok %d" % slot for slot in matches]

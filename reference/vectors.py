@@ -5,6 +5,7 @@ Run alone it prints every vector that fails and a count.
 
 import sys
 
+import boards
 import ciphers
 import devices
 import field
@@ -186,12 +187,37 @@ def _example_checks():
     yield "hash, tau z", mode.poly_hash(z, _zeros_after("01", 32)), _zeros_after("06")
     yield "hash with a tail", mode.poly_hash(z, bytes(16) + b"\5"), _zeros_after("0a02")
     yield "lengths", mode.lengths_group(22, 19, 32), _zeros_after("160000001300000020")
+    yield "nonce of slot 3", boards.nonce(3, b"TWR"), _zeros_after("03000000545752")
     yield "units", [devices.Chain.units(n) for n in (30, 31, 1000)], [1, 2, 34]
-    yield "room on a chain", list(_room_on_a_chain()), [9, 0]
+    yield "room on a chain", list(_room_on_a_chain(_chain())), [9, 0]
+    yield "room on a pile of boards", list(_room_on_a_chain(_pile())), [9, 0]
+    yield "row through a pile", _through_a_pile(), (b"a" * 30, True)
 
 
-def _room_on_a_chain():
-    chain = devices.Chain.set_out(2, 100, 2)
+def _chain():
+    return devices.Chain.set_out(2, 100, 2)
+
+
+def _keys(name):
+    return boards.Keys(ciphers.KINDS[name], bytes(range(48)), b"TWR")
+
+
+def _pile():
+    """A board over a board over a chain."""
+    return boards.Board(_keys("speck128"), boards.Board(_keys("aes128"), _chain()))
+
+
+def _through_a_pile():
+    """A row written and read, and whether the chain holds it sealed twice."""
+    upper = _pile()
+    upper.write(1, b"a" * 30)
+    row = upper.read(1, 100)
+    lower = upper.shut()
+    twice = _keys("aes128").sealed(1, _keys("speck128").sealed(1, row))
+    return row, lower.shut().read(1, 100) == twice
+
+
+def _room_on_a_chain(chain):
     chain.write(0, b"a" * 30)
     chain.write(1, b"b" * 16)
     try:

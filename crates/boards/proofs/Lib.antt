@@ -1,0 +1,10 @@
+pub mod Labels
+pub mod Rows
+pub mod ModeFacts
+pub mod Layers
+pub mod RowSealing
+pub mod CallFacts
+pub mod StepFacts
+pub mod ListFacts
+pub mod Alike
+pub mod TwoScreens

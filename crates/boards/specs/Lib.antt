@@ -1,0 +1,9 @@
+pub mod Through
+pub mod Kinds
+pub mod Contexts
+pub mod Modes
+pub mod Readiness
+pub mod Plain
+pub mod Screens
+pub mod Promise
+pub mod Soundness
