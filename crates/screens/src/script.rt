@@ -107,20 +107,22 @@ impl Script {
             ["1", call @ ..] => {
                 let called = entry(heap, call)?;
                 let text = joined(heap, &words)?;
-                self.lines.push(Line::OnOne {
-                    text,
-                    at: self.first.len(),
-                })?;
+                self.lines
+                    .push(Line::OnOne {
+                        text,
+                        at: self.first.len(),
+                    })?;
                 self.first.push(called)?;
                 Ok(())
             }
             ["2", call @ ..] => {
                 let called = entry(heap, call)?;
                 let text = joined(heap, &words)?;
-                self.lines.push(Line::OnTwo {
-                    text,
-                    at: self.second.len(),
-                })?;
+                self.lines
+                    .push(Line::OnTwo {
+                        text,
+                        at: self.second.len(),
+                    })?;
                 self.second.push(called)?;
                 Ok(())
             }
@@ -144,7 +146,8 @@ impl Script {
         }
         check_layout(heap, layout)?;
         *place = Some(layout);
-        self.lines.push(Line::Answered(String::from_str(heap, "ok 0")?))?;
+        self.lines
+            .push(Line::Answered(String::from_str(heap, "ok 0")?))?;
         Ok(())
     }
 
@@ -155,7 +158,8 @@ impl Script {
             return Err(Fault::Line("the cipher is chosen once and before the first call"));
         }
         self.cipher = Some(kind);
-        self.lines.push(Line::Answered(String::from_str(heap, "ok 0")?))?;
+        self.lines
+            .push(Line::Answered(String::from_str(heap, "ok 0")?))?;
         Ok(())
     }
 
@@ -170,7 +174,15 @@ impl Script {
         let Some(kind) = self.cipher else {
             return Err(Fault::Line("no cipher is chosen"));
         };
-        run_on(heap, kind, one, two, self.first.as_mut_slice(), self.second.as_mut_slice(), table)
+        run_on(
+            heap,
+            kind,
+            one,
+            two,
+            self.first.as_mut_slice(),
+            self.second.as_mut_slice(),
+            table,
+        )
     }
 
     // Runs both lists, and gives every line of the answer.
@@ -191,7 +203,12 @@ impl Script {
     }
 
     // The answer to one line of the script.
-    fn answer_to(&self, heap: Global, line: &Line, wrong: &Option<String>) -> Result<String, AllocError> {
+    fn answer_to(
+        &self,
+        heap: Global,
+        line: &Line,
+        wrong: &Option<String>,
+    ) -> Result<String, AllocError> {
         let (text, entry) = match line {
             Line::Answered(text) => return text.clone(),
             Line::OnOne { text, at } => (text, self.first.get(*at)),

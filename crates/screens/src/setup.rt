@@ -12,8 +12,15 @@ pub enum Kind {
 // A device to be set out, with its dimensions.
 #[derive(Clone, Copy)]
 pub enum Layout {
-    Tray { slots: usize, longest: usize },
-    Chain { slots: usize, longest: usize, cells: usize },
+    Tray {
+        slots: usize,
+        longest: usize,
+    },
+    Chain {
+        slots: usize,
+        longest: usize,
+        cells: usize,
+    },
 }
 
 pub fn kind_of(word: &str) -> Result<Kind, Fault> {

@@ -19,7 +19,12 @@ fn cell<D: SlotDevice>(heap: Global, device: &mut D, slot: usize) -> Result<Stri
 }
 
 // A line for each slot that either device has.
-pub fn compare<D: SlotDevice, E: SlotDevice>(heap: Global, one: &mut D, two: &mut E, lines: &mut Vec<String>) -> Result<(), Fault> {
+pub fn compare<D: SlotDevice, E: SlotDevice>(
+    heap: Global,
+    one: &mut D,
+    two: &mut E,
+    lines: &mut Vec<String>,
+) -> Result<(), Fault> {
     for slot in 0..one.slots().max(two.slots()) {
         let first = cell(heap, one, slot)?;
         let second = cell(heap, two, slot)?;

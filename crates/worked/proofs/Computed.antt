@@ -15,6 +15,8 @@ use Rattle.field.proofs.Products.{laws, timesZ-twice, product-mul}
 use Rattle.mode.specs.Cmac.{doubled}
 use Rattle.mode.specs.Hash.{sumTo, hashOf}
 use Rattle.mode.specs.Sealing.{lengthGroup}
+use Rattle.devices.specs.ChainExamples.{ChainExamples}
+use Rattle.boards.specs.Contexts.{contextOf, paddedLabel}
 use Rattle.worked.specs.Worked.{WorkedExamples}
 
 -- one, doubled n times
@@ -62,8 +64,12 @@ lengths : zeroPadded (lengthGroup 22 19 32) ≡ 0x16 ∷ 0x00 ∷ 0x00 ∷ 0x00 
 unfolding bytes lengthGroup
 lengths = refl
 
-pub examples : WorkedExamples
-examples = record {
+slot-three : contextOf 3 (0x54 ∷ 0x57 ∷ 0x52 ∷ []) .nonce ≡ 0x03 ∷ 0x00 ∷ 0x00 ∷ 0x00 ∷ 0x54 ∷ 0x57 ∷ 0x52 ∷ zeros 9
+unfolding bytes contextOf paddedLabel
+slot-three = refl
+
+pub examples : ChainExamples → WorkedExamples
+examples chain = record {
   z-times-highest = highest;
   product-of-powers = product-powers;
   z-times-reduction = reduction;
@@ -72,4 +78,6 @@ examples = record {
   hash-of-two-blocks = two-blocks;
   hash-with-tail = with-tail;
   group-of-lengths = lengths;
+  nonce-of-slot-three = slot-three;
+  units-and-room-on-a-chain = chain;
 }

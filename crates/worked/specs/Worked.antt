@@ -8,6 +8,8 @@ use Rattle.field.specs.Field.{fieldProduct, fieldPower, timesZ}
 use Rattle.mode.specs.Cmac.{doubled}
 use Rattle.mode.specs.Hash.{hashOf}
 use Rattle.mode.specs.Sealing.{lengthGroup}
+use Rattle.devices.specs.ChainExamples.{ChainExamples}
+use Rattle.boards.specs.Contexts.{contextOf}
 
 pub record WorkedExamples : Type 0 where
   -- z times z^127
@@ -26,3 +28,7 @@ pub record WorkedExamples : Type 0 where
   pub hash-with-tail : bytes 16 (hashOf (number (0x02 ∷ zeros 15)) (zeros 16 ++ (0x05 ∷ []))) ≡ 0x0A ∷ 0x02 ∷ zeros 14
   -- the lengths 22, 19 and 32
   pub group-of-lengths : zeroPadded (lengthGroup 22 19 32) ≡ 0x16 ∷ 0x00 ∷ 0x00 ∷ 0x00 ∷ 0x13 ∷ 0x00 ∷ 0x00 ∷ 0x00 ∷ 0x20 ∷ zeros 7
+  -- the nonce of slot 3 under the label 54 57 52
+  pub nonce-of-slot-three : contextOf 3 (0x54 ∷ 0x57 ∷ 0x52 ∷ []) .nonce ≡ 0x03 ∷ 0x00 ∷ 0x00 ∷ 0x00 ∷ 0x54 ∷ 0x57 ∷ 0x52 ∷ zeros 9
+  -- what rows of 30, 31 and 1,000 bytes cost on a chain, and room on two cells before and after a slot is cleared
+  pub units-and-room-on-a-chain : ChainExamples
