@@ -39,6 +39,16 @@ def snake(name):
     return name.replace("-", "_")
 
 
+def brought_in(text, own):
+    """The names that a file takes from other repositories' modules, or from what is made of the code: they stay."""
+    names = set()
+    for module, listed in re.findall(r"\buse ([\w.·'-]+)\.\{([^}]*)\}", text):
+        parts = module.split(".")
+        if not (parts[0] == "Rattle" and parts[1] in own) or {"declared", "Goals", "Given"} & set(parts):
+            names |= {n.split(" as ")[0].strip() for n in listed.split(",")}
+    return names
+
+
 def goals(text):
     return set(re.findall(r"^(?:abbrev )?pub ([\w'-]+) : goal\.", text, re.M))
 
@@ -76,7 +86,7 @@ def respelled(names):
     return new, fall
 
 
-def turn(text, new, comment):
+def turn(text, new, comment, stay=frozenset()):
     out, last = [], 0
     quiet = [m.span() for m in re.finditer(r'"(?:\\.|[^"\\\n])*"', text)]
     remarks = [m.span() for m in re.finditer(comment + r".*", text)]
@@ -84,6 +94,9 @@ def turn(text, new, comment):
     for m in TOKEN.finditer(text):
         to = new.get(m[0])
         if to is None or inside(m.start(), quiet) or text[: m.start()].endswith("goal."):
+            continue
+        # behind a dot it is a module's own name or a field, and not what the file brought in
+        if m[0] in stay and text[m.start() - 1 : m.start()] != ".":
             continue
         # a word with a dash in a remark is plain English
         if "-" in m[0] and inside(m.start(), remarks):
@@ -104,10 +117,11 @@ def main():
         for name, to in fall:
             print(" ", name, to, *sorted(names[name])[:3])
         return
+    crates = {p.name for p in (top / "crates").iterdir()}
     for p in files(top, "crates/*/specs/**/*.antt", "crates/*/proofs/**/*.antt"):
         text = p.read_text()
-        own = {k: v for k, v in new.items() if k not in goals(text)}
-        p.write_text(turn(text, own, "--"))
+        stay = goals(text) | brought_in(text, crates)
+        p.write_text(turn(text, new, "--", stay))
     for p in files(top, "crates/*/src/**/*.rt", "crates/*/must-fail/*.edit"):
         text = p.read_text()
         p.write_text(turn(text, new, "//"))
