@@ -1,8 +1,8 @@
 -- Products worked out by doubling one factor and adding, and their laws, at every width: numbers of v + 1 bits,
 -- modulo z^(v + 1) + q.
-use Rattle.std.proofs.Common.{◌≡◌, ℕ, zero, suc, ◌+◌, ◌-◌, ◌*◌, ◌/◌, ◌%◌, ◌^◌, ◌<◌, ◌≤◌, sym, refl, ap, ◌∙◌, subst, add-zero, mod-lt, mod-eq_of_lt, mul_assoc, mul_comm, add-mul, one-mul, pow-suc, div-add-mod', zero-add, zero-mul, arith, pow_pos}
+use Rattle.std.proofs.Common.{◌≡◌, ℕ, zero, suc, ◌+◌, ◌*◌, ◌/◌, ◌%◌, ◌^◌, ◌<◌, ◌≤◌, sym, refl, ap, ◌∙◌, add-zero, mod-lt, mod-eq_of_lt, mul_assoc, mul_comm, add-mul, one-mul, pow-suc, div-add-mod', zero-mul, arith, pow_pos}
 use native.Mathlib.Nat.{zero-mod, zero-div, div-eq_of_lt}
-use lib.Bits.{bit_xor, xor_assoc, xor_self, xor_zero_r, xor_zero_l, xor_comm, xor_lt, xor_block, xor_mod, xor_shr, xor_shifted}
+use lib.Bits.{bit_xor, xor_assoc, xor_self, xor_zero_r, xor_comm, xor_lt, xor_block, xor_mod, xor_shr, xor_shifted}
 use lib.Pow.{pow-lt}
 use Rattle.base.specs.Polynomials.{scaled}
 
@@ -202,3 +202,9 @@ module _ (v q : ℕ) where
   pub mul_associates : (a b c : ℕ) → q < 2 ^ suc v → a < 2 ^ suc v → b < 2 ^ suc v → c < 2 ^ suc v → mul v q (mul v q a b) c ≡ mul v q a (mul v q b c)
   mul_associates a b c f ha hb hc =
       mul_commutes (mul v q a b) c (mul_lt a b f hb) hc ∙ mul_mul a c b ∙ ap (mul v q a) (mul_commutes c b hc hb)
+
+  -- ---- the loop of a product
+
+  pub turn : (n a b acc : ℕ) → bit_xor (bit_xor acc (scaled (a % 2) b)) (mul_bits v q n (a / 2) (twice v q b)) ≡ bit_xor acc (mul_bits v q (suc n) a b)
+  unfolding mul_bits
+  turn n a b acc = xor_assoc acc (scaled (a % 2) b) (mul_bits v q n (a / 2) (twice v q b))

@@ -1,8 +1,8 @@
 -- The product modulo a polynomial, by long division, is the one by doubling and adding; so its laws hold.
-use Rattle.std.proofs.Common.{◌≡◌, ℕ, zero, suc, ◌+◌, ◌-◌, ◌*◌, ◌/◌, ◌%◌, ◌^◌, ◌<◌, ◌≤◌, sym, refl, ap, ◌∙◌, subst, lt_of_lt_of_le, le_of_suc-le-suc, add-zero, add-suc, mul-le-mul_right, mod-lt, mod-eq_of_lt, mul_assoc, mul_comm, add-mul, suc-add, one-mul, pow-suc, zero-add, zero-mul, mul_one, div-one, arith, pow_pos, pow_mono, pow-add, shl_lt}
+use Rattle.std.proofs.Common.{◌≡◌, ℕ, zero, suc, ◌+◌, ◌-◌, ◌*◌, ◌/◌, ◌%◌, ◌^◌, ◌<◌, sym, refl, ap, ◌∙◌, subst, lt_of_lt_of_le, le_of_suc-le-suc, add-zero, add-suc, mul-le-mul_right, mod-lt, mod-eq_of_lt, mul_assoc, mul_comm, add-mul, suc-add, one-mul, pow-suc, zero-add, zero-mul, mul-one, div-one, arith, pow_pos, pow_mono, pow-add, shl_lt}
 use native.Mathlib.Nat.{div-div-eq-div-mul, div-eq_of_lt, mul-div-mul_right, mul-add-div_right, mul-add-mod_self_right}
-use lib.Bits.{bit_xor, xor_assoc, xor_self, xor_zero_r, xor_zero_l, xor_comm, xor_lt, xor_block, xor_mod, xor_shr, xor_shifted}
-use lib.Pow.{high, pow-lt, split}
+use lib.Bits.{bit_xor, xor_assoc, xor_self, xor_zero_r, xor_zero_l, xor_comm, xor_lt, xor_block, xor_shr}
+use lib.Pow.{high, split}
 use Rattle.std.proofs.lemmas.Nat.{shr_below}
 use Rattle.base.specs.Polynomials.{scaled, coefficient, carryless, remainder, times, power, Ring}
 use Rattle.base.proofs.Strings.{xor_twice}
@@ -165,7 +165,7 @@ module _ (v q : ℕ) (small : q < 2 ^ suc v) where
       reduced_is 0 (c * 2) l
       ∙ ap (λ (x : ℕ). bit_xor (c * 2 % 2 ^ x) (scaled (c * 2 / 2 ^ x) (q * 2 ^ 0))) a
       ∙ ap (λ (x : ℕ). bit_xor (c * 2 % 2 ^ suc v) (scaled x (q * 1))) (d ∙ sym (mod-eq_of_lt t))
-      ∙ ap (λ (x : ℕ). bit_xor (c * 2 % 2 ^ suc v) (scaled (c / 2 ^ v % 2) x)) (mul_one q)
+      ∙ ap (λ (x : ℕ). bit_xor (c * 2 % 2 ^ suc v) (scaled (c / 2 ^ v % 2) x)) (mul-one q)
 
   remainder_twice : (n c : ℕ) → c < 2 ^ (suc v + n) → remainder (suc v) modulus (suc n) (c * 2) ≡ twice v q (remainder (suc v) modulus n c)
   unfolding remainder
@@ -183,7 +183,7 @@ module _ (v q : ℕ) (small : q < 2 ^ suc v) where
 
   remainder_doubled : (n b : ℕ) → b < 2 ^ suc v → remainder (suc v) modulus n (b * 2 ^ n) ≡ doubled n b
   unfolding remainder
-  remainder_doubled zero b h = mul_one b
+  remainder_doubled zero b h = mul-one b
   remainder_doubled (suc n) b h =
       ap (remainder (suc v) modulus (suc n)) (ap (λ (x : ℕ). b * x) (pow-suc 2 n) ∙ sym (mul_assoc b (2 ^ n) 2))
       ∙ remainder_twice n (b * 2 ^ n) (shl_lt (suc v) n h)

@@ -1,5 +1,5 @@
 -- Byte strings: lists of numbers below 256.
-use Rattle.std.specs.Prelude.{◌≡◌, ℕ, ◌<◌, Bool, true, ◌&&◌, List, [], ◌∷◌, length, get_or, replicate, ◌==◌, bit_xor, slice_index}
+use Rattle.std.specs.Prelude.{◌≡◌, ℕ, ◌<◌, Bool, true, ◌&&◌, List, [], ◌∷◌, length, replicate, ◌==◌, bit_xor, slice_index}
 
 -- every element is a byte; past the end get_or gives 0, so this is asked of each index
 abbrev pub AllBytes : List ℕ → Type 0

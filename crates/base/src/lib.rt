@@ -1,3 +1,4 @@
+#![tactic(auto)]
 // What every layer shares: the refusals, and byte strings.
 pub mod bytes;
 pub mod refusals;
