@@ -1,5 +1,5 @@
 -- Products by powers of z are places up, and products by several terms of a factor at a time.
-use Rattle.std.proofs.Common.{◌≡◌, ℕ, zero, suc, ◌+◌, ◌*◌, ◌/◌, ◌%◌, ◌^◌, ◌<◌, List, get_or, sym, ap, ◌∙◌, mod-lt, mod-eq_of_lt, mul_assoc, pow-suc, div-add-mod', mul_one, div-le_self, div-one, arith, pow-add}
+use Rattle.std.proofs.Common.{◌≡◌, ℕ, zero, suc, ◌+◌, ◌*◌, ◌/◌, ◌%◌, ◌^◌, ◌<◌, List, get_or, sym, ap, ◌∙◌, mod-lt, mod-eq_of_lt, mul_assoc, pow-suc, div-add-mod', mul-one, div-le_self, div-one, arith, pow-add}
 use native.Mathlib.Nat.{div-eq_of_lt, div-div-eq-div-mul}
 use lib.Bits.{bit_xor, xor_self, xor_zero_r, xor_assoc, xor_comm, xor_shifted}
 use lib.Pow.{pow-lt}
@@ -37,7 +37,7 @@ half_lt : (x y : ℕ) → y ≡ x * 2 → y < 2 ^ 128 → x < 2 ^ 127
 half_lt x y e h = omega arith
 
 up : (k a : ℕ) → k < 128 → a < 2 ^ 128 → a * 2 ^ k < 2 ^ 128 → field_product (2 ^ k) a ≡ a * 2 ^ k
-up zero a l ha h = ring.one a ha ∙ sym (mul_one a)
+up zero a l ha h = ring.one a ha ∙ sym (mul-one a)
 up (suc k) a l ha h =
     let e : 2 ^ suc k ≡ 2 ^ k * 2 = pow-suc 2 k in
     let f : a * 2 ^ suc k ≡ a * 2 ^ k * 2 = ap (λ (x : ℕ). a * x) e ∙ sym (mul_assoc a (2 ^ k) 2) in

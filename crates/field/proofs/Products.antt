@@ -1,5 +1,5 @@
 -- The laws of base at 128 bits, and products by doubling.
-use Rattle.std.proofs.Common.{◌≡◌, ℕ, ◌+◌, ◌^◌, ◌<◌, sym, ◌∙◌, arith}
+use Rattle.std.proofs.Common.{◌≡◌, ℕ, ◌^◌, ◌<◌, arith}
 use Rattle.base.specs.Polynomials.{carryless, times}
 use Rattle.base.proofs.Doubling.{twice, mul}
 use Rattle.base.proofs.Rings as rings

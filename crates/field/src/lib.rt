@@ -1,3 +1,4 @@
+#![tactic(auto)]
 // The field of 2^128 elements, each a number whose bit i is the coefficient of z^i.
 ghost use Rattle.std.specs.Prelude.{◌≡◌, length};
 ghost use Rattle.base.specs.Numbers.{number};

@@ -19,12 +19,12 @@ loop-bit-preserved c =
       | else-rest-eq1 w ↦ (let z : c.loop-bit.rest % 2 ≡ 0 = omega (arith, w.if-rest-eq1.false) in
           w.sum-is ∙ sym (ap (λ (d : ℕ). bit_xor c.loop-bit.sum (scaled d c.loop-bit.multiple)) z ∙ xor_zero_r c.loop-bit.sum))
     ] in
-    let n : suc (128 - (c.loop-bit.-bit + 1)) ≡ 128 - c.loop-bit.-bit = omega arith in (
+    let n : suc (128 - (c.loop-bit._bit + 1)) ≡ 128 - c.loop-bit._bit = omega arith in (
       subst (λ (z : ℕ). z < 2 ^ 128) (sym c.double-multiple.ensures) (times_z_lt c.loop-bit.multiple fits),
-      ap (λ (z : ℕ). bit_xor z (mul_bits 127 135 (128 - (c.loop-bit.-bit + 1)) (c.loop-bit.rest / 2) c.double-multiple.result)) added
-          ∙ ap (λ (z : ℕ). bit_xor (bit_xor c.loop-bit.sum (scaled (c.loop-bit.rest % 2) c.loop-bit.multiple)) (mul_bits 127 135 (128 - (c.loop-bit.-bit + 1)) (c.loop-bit.rest / 2) z))
+      ap (λ (z : ℕ). bit_xor z (mul_bits 127 135 (128 - (c.loop-bit._bit + 1)) (c.loop-bit.rest / 2) c.double-multiple.result)) added
+          ∙ ap (λ (z : ℕ). bit_xor (bit_xor c.loop-bit.sum (scaled (c.loop-bit.rest % 2) c.loop-bit.multiple)) (mul_bits 127 135 (128 - (c.loop-bit._bit + 1)) (c.loop-bit.rest / 2) z))
           (c.double-multiple.ensures ∙ times_z_twice c.loop-bit.multiple fits)
-          ∙ turn 127 135 (128 - (c.loop-bit.-bit + 1)) c.loop-bit.rest c.loop-bit.multiple c.loop-bit.sum
+          ∙ turn 127 135 (128 - (c.loop-bit._bit + 1)) c.loop-bit.rest c.loop-bit.multiple c.loop-bit.sum
           ∙ ap (λ (z : ℕ). bit_xor c.loop-bit.sum (mul_bits 127 135 z c.loop-bit.rest c.loop-bit.multiple)) n
           ∙ c.loop-bit.invariant.1,
     )
@@ -32,6 +32,6 @@ loop-bit-preserved c =
 pub returns : goal.returns
 unfolding mul_bits
 returns c =
-    let n : 0 ≡ 128 - c.loop-bit.-bit = omega arith in
+    let n : 0 ≡ 128 - c.loop-bit._bit = omega arith in
     sym (xor_zero_r c.loop-bit.sum) ∙ ap (λ (z : ℕ). bit_xor c.loop-bit.sum (mul_bits 127 135 z c.loop-bit.rest c.loop-bit.multiple)) n ∙ c.loop-bit.invariant.1
     ∙ sym (product_mul c.args.a c.args.b (search rules))

@@ -20,7 +20,7 @@ loop-i-preserved c =
     let e : c.loop-i.i ≡ k + 1 = omega arith in
     let hg : g < 256 = mod-lt (b / 2 ^ (8 * k)) (omega arith) in
     ap (λ (x : ℕ). bit_xor (bit_xor x high) low)
-    (c.eight_up_lem.ensures ∙ ap (field_product 256) (c.loop-i.invariant ∙ ap (λ (n : ℕ). field_product (b / 2 ^ (8 * n)) a) e))
+    (c.eight_up.ensures ∙ ap (field_product 256) (c.loop-i.invariant ∙ ap (λ (n : ℕ). field_product (b / 2 ^ (8 * n)) a) e))
     ∙ ap (λ (x : ℕ). bit_xor (bit_xor above x) low) (c.args.self.now.highs.2 (g / 16) (omega (arith, hg)))
     ∙ ap (bit_xor (bit_xor above (field_product (g / 16) (field_product 16 a)))) (c.args.self.now.lows.2 (g % 16) (mod-lt g (omega arith)))
     ∙ groups_more b a k (search rules) c.args.self.now.lows.1
