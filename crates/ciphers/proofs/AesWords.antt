@@ -8,7 +8,6 @@ use Rattle.base.specs.Bytes.{xor_front}
 use Rattle.base.specs.Polynomials.{power}
 use Rattle.base.proofs.Strings.{front_none}
 use Rattle.ciphers.specs.AesField.{product}
-use Rattle.ciphers.specs.AesSteps.{word}
 use Rattle.ciphers.specs.AesSchedule.{rot_word, sub_word, round_constant, turned_at, substituted_at, temp, next_word, expanded}
 use Rattle.ciphers.specs.AesScheduleLemmas.{expanded_long}
 use Rattle.ciphers.proofs.AesLoops.{grown}

@@ -7,7 +7,7 @@ use Rattle.std.proofs.lemmas.List.{length-take-le, length-map}
 use Rattle.base.specs.Bytes.{AllBytes, Block}
 use Rattle.base.proofs.Strings.{take_bytes, drop_bytes, append_bytes, front_long, front_bytes}
 use Rattle.ciphers.specs.AesField.{substitution, inv_substitution}
-use Rattle.ciphers.specs.AesSteps.{at, state, sub_bytes, inv_sub_bytes, shift_rows, inv_shift_rows, mix_column, inv_mix_column, word, columnwise, mix_columns, inv_mix_columns, add_round_key}
+use Rattle.ciphers.specs.AesSteps.{at, sub_bytes, inv_sub_bytes, shift_rows, inv_shift_rows, mix_column, inv_mix_column, word, columnwise, mix_columns, inv_mix_columns, add_round_key}
 use Rattle.ciphers.specs.AesTablesLemmas.{substitution_lt, inv_substitution_lt, substitution_undone, substitution_redone}
 use Rattle.ciphers.specs.AesColumns.{mix_column_fit, inv_mix_column_fit, mixing_undone, mixing_redone}
 

@@ -1,9 +1,9 @@
 -- Going back undoes going forward, and forward undoes back.
-use Rattle.std.specs.Prelude.{◌≡◌, ℕ, zero, suc, ◌+◌, ◌-◌, ◌*◌, ◌/◌, ◌%◌, ◌^◌, ◌<◌, ◌≤◌, List, [], ◌∷◌, ◌++◌, map, length, take, drop, fold, bit_xor, refl}
+use Rattle.std.specs.Prelude.{◌≡◌, ℕ, zero, suc, ◌^◌, ◌<◌, ◌≤◌, List, [], ◌∷◌, ◌++◌, map, length, take, drop, fold, bit_xor, refl}
 use Rattle.std.proofs.Common.{sym, ◌∙◌, subst, zero-add, arith, length-append, length-take, length-drop}
 use Rattle.std.proofs.Math.Path.{ap}
 use Rattle.std.proofs.lemmas.Nat.{xor_lt}
-use Rattle.std.specs.List.{range_with_len, AllByRecursion as All}
+use Rattle.std.specs.List.{range_with_len, AllByRecursion}
 use Rattle.std.proofs.lemmas.List.{take_at, drop_at, take_all, drop_all, drop-drop, take-append-drop, append-nil}
 use borrow.Rule.Slice.PartMut.{put_mid, post_of}
 use Rattle.std.proofs.ByRecursion.{All-from_get_or}
@@ -13,7 +13,7 @@ use Rattle.base.specs.Numbers.{number, bytes}
 use Rattle.base.proofs.Strings.{take_bytes, drop_bytes, append_bytes, xor_twice}
 use Rattle.base.proofs.Digits.{number_lt, number_bytes, bytes_number, bytes_long, bytes_fit}
 use Rattle.ciphers.specs.Keys.{Key}
-use Rattle.ciphers.specs.Words.{rotated, plus, minus, rotated_left, rotated_right}
+use Rattle.ciphers.specs.Words.{plus, minus, rotated_left, rotated_right}
 use Rattle.ciphers.specs.Speck.{round, unround, round_a, round_b, unround_a, unround_b, rounds, unrounds, scheduled, words_of, block_of, round_keys, speck_forward, speck_back}
 use Rattle.ciphers.specs.WordLaws.{rotated_lt, rotated_back, minus_plus, plus_minus, plus_lt, minus_lt}
 use Rattle.ciphers.specs.SpeckRounds.{pair}
@@ -81,7 +81,7 @@ round_unround s k h f = pair _ _ s.0 s.1 (re_a s.0 s.1 k f.first f.second h) (re
 
 -- ---- all rounds
 
-rounds_fit : (ks : List ℕ) (s : ℕ × ℕ) → All (λ k. k < 2 ^ 64) ks → Fit s → Fit (rounds s ks)
+rounds_fit : (ks : List ℕ) (s : ℕ × ℕ) → AllByRecursion (λ k. k < 2 ^ 64) ks → Fit s → Fit (rounds s ks)
 unfolding rounds
 rounds_fit [] s h f = f
 rounds_fit (k ∷ ks) s h f = rounds_fit ks (round s k) h.1 (round_fits s k h.0 f)
@@ -91,13 +91,13 @@ unfolding unrounds
 unrounds_fit [] s f = f
 unrounds_fit (k ∷ ks) s f = unround_fits (unrounds s ks) k (unrounds_fit ks s f)
 
-unrounds_rounds : (ks : List ℕ) (s : ℕ × ℕ) → All (λ k. k < 2 ^ 64) ks → Fit s → unrounds (rounds s ks) ks ≡ s
+unrounds_rounds : (ks : List ℕ) (s : ℕ × ℕ) → AllByRecursion (λ k. k < 2 ^ 64) ks → Fit s → unrounds (rounds s ks) ks ≡ s
 unfolding rounds unrounds
 unrounds_rounds [] s h f = refl
 unrounds_rounds (k ∷ ks) s h f =
     ap (λ (t : ℕ × ℕ). unround t k) (unrounds_rounds ks (round s k) h.1 (round_fits s k h.0 f)) ∙ unround_round s k f
 
-rounds_unrounds : (ks : List ℕ) (s : ℕ × ℕ) → All (λ k. k < 2 ^ 64) ks → Fit s → rounds (unrounds s ks) ks ≡ s
+rounds_unrounds : (ks : List ℕ) (s : ℕ × ℕ) → AllByRecursion (λ k. k < 2 ^ 64) ks → Fit s → rounds (unrounds s ks) ks ≡ s
 unfolding rounds unrounds
 rounds_unrounds [] s h f = refl
 rounds_unrounds (k ∷ ks) s h f =
@@ -120,7 +120,7 @@ words_fit b l h = record {
   second = number_lt 8 (take 8 b) (half_long b l).0 (take_bytes 8 b h);
 }
 
-keys_fit : (key : List ℕ) → length key ≡ 16 → AllBytes key → All (λ k. k < 2 ^ 64) (round_keys key)
+keys_fit : (key : List ℕ) → length key ≡ 16 → AllBytes key → AllByRecursion (λ k. k < 2 ^ 64) (round_keys key)
 unfolding round_keys
 keys_fit key l h =
     let f : ℕ → ℕ = λ i. (scheduled (words_of key) i).1 in
@@ -156,7 +156,7 @@ block_of_lem s = record {
 -- ---- the laws
 
 module _ (k : List ℕ) (key : Key 16 k) where
-  schedule_fits : All (λ x. x < 2 ^ 64) (round_keys k)
+  schedule_fits : AllByRecursion (λ x. x < 2 ^ 64) (round_keys k)
   schedule_fits = keys_fit k key.long key.fit
 
   pub undone : (b : List ℕ) → Block b → speck_back k (speck_forward k b) ≡ b

@@ -1,11 +1,10 @@
 -- The laws of words: rotations and sums modulo 2^64 are undone.
-use Rattle.std.specs.Prelude.{◌≡◌, ℕ, zero, suc, ◌+◌, ◌-◌, ◌*◌, ◌/◌, ◌%◌, ◌^◌, ◌<◌, ◌≤◌, bit_or, refl}
-use Rattle.std.proofs.Common.{sym, ap, ◌∙◌, subst, mod-lt, add-zero, mul_comm, pow-suc, arith, pow_pos, pow-add, shr_lt}
-use Rattle.std.proofs.Math.Nat.{mul-mod_left, div-div-eq-div-mul}
-use Rattle.std.specs.Int.Bits.{bit_xor, xor_assoc, xor_self, xor_zero_r}
+use Rattle.std.specs.Prelude.{◌≡◌, ℕ, ◌+◌, ◌*◌, ◌/◌, ◌%◌, ◌^◌, ◌<◌, bit_or}
+use Rattle.std.proofs.Common.{sym, ap, ◌∙◌, subst, mod-lt, add-zero, arith, pow_pos, pow-add}
+use Rattle.std.proofs.Math.Nat.{mul-mod_left}
 use Rattle.std.proofs.Math.Pow.{high, low, split}
 use Rattle.std.proofs.Math.Arith.{digits_lt}
-use Rattle.std.proofs.lemmas.Nat.{shr_below, or_shifted, or_comm, xor_comm, xor_lt, mod-pow-add, shl-shr}
+use Rattle.std.proofs.lemmas.Nat.{shr_below, or_shifted, or_comm, mod-pow-add, shl-shr}
 use Rattle.ciphers.specs.Words.{rotated, plus, minus}
 
 pub shl_mod : (a j k : ℕ) → (a * 2 ^ k) % 2 ^ (j + k) ≡ (a % 2 ^ j) * 2 ^ k

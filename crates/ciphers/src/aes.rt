@@ -30,6 +30,8 @@ pub struct Aes128 {
 impl BlockCipher for Aes128 {
     const KEY_LEN: usize = 16;
 
+    ghost KEY_LEN = { 16 };
+
     ghost key_length = { 16 };
 
     ghost forward = { forward 4 };
@@ -52,7 +54,7 @@ impl BlockCipher for Aes128 {
 
     fn stated_key_len() -> usize
         ensures value { result ≡ 16 }
-        ensures* constant { do ⌜ result ≡ (← (⟦Aes128::KEY_LEN⟧).entry) ⌝ }
+        ensures constant { result ≡ ⟦<Self as BlockCipher>⟧.KEY_LEN }
     {
         Self::KEY_LEN
     }

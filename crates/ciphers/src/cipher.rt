@@ -11,6 +11,9 @@ pub trait BlockCipher: Sized {
     // how long a key is: 16, 24 or 32 bytes
     const KEY_LEN: usize;
 
+    // KEY_LEN in contracts
+    ghost KEY_LEN: { ℕ };
+
     // the length of a key
     ghost key_length: { ℕ };
 

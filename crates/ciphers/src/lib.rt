@@ -1,3 +1,4 @@
+#![tactic(auto)]
 // Block ciphers: what every cipher means, and the ciphers that there are.
 pub mod aes;
 pub mod cipher;

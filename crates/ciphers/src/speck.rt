@@ -90,6 +90,8 @@ pub struct Speck128 {
 impl BlockCipher for Speck128 {
     const KEY_LEN: usize = 16;
 
+    ghost KEY_LEN = { 16 };
+
     ghost key_length = { 16 };
 
     ghost forward = { speck_forward };
@@ -112,7 +114,7 @@ impl BlockCipher for Speck128 {
 
     fn stated_key_len() -> usize
         ensures value { result ≡ 16 }
-        ensures* constant { do ⌜ result ≡ (← (⟦Speck128::KEY_LEN⟧).entry) ⌝ }
+        ensures constant { result ≡ ⟦<Self as BlockCipher>⟧.KEY_LEN }
     {
         Self::KEY_LEN
     }

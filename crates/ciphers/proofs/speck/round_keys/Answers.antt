@@ -1,11 +1,11 @@
-use Rattle.std.proofs.Common.{◌≡◌, ◌<◌, ◌≢◌, length, get_or, refl, ap, ◌∙◌, arith, length-set, get_or-set_other, get_or-set_same, rules, below_more}
-use Rattle.ciphers.specs.Speck.{words_of, scheduled}
+use Rattle.std.proofs.Common.{◌<◌, ◌≢◌, length, refl, ap, ◌∙◌, arith, length-set, get_or-set_other, get_or-set_same, rules, below_more}
+use Rattle.ciphers.specs.Speck.{words_of}
 use Rattle.ciphers.specs.SpeckRounds.{scheduled_none, scheduled_more, all_keys, pair}
 use Rattle.ciphers.proofs.speck.round_keys.Goals as goal
 
 pub loop-i-init : goal.loop-i-init
 unfolding words_of
-loop-i-init c = (pair _ _ _ _ c.read-word.ensures c.read-word-2.ensures ∙ scheduled_none _, refl, λ j h. absurd (omega arith))
+loop-i-init c = (pair _ _ _ _ c.read_word.ensures c.read_word-2.ensures ∙ scheduled_none _, refl, λ j h. absurd (omega arith))
 
 pub loop-i-preserved : goal.loop-i-preserved
 loop-i-preserved c = (

@@ -7,28 +7,28 @@ pub loop-i-init : goal.loop-i-init
 loop-i-init c =
     let key : List ℕ = c.args.key.now in
     let rest : List ℕ = drop (length key) c.args.schedule.now in
-    words_none (length key / 4) key rest (c.copy-from-slice.new.self ++ rest) (search rules) (ap (λ (z : List ℕ). z ++ rest) c.copy-from-slice.ensures.after)
+    words_none (length key / 4) key rest (c.copy_from_slice.new.self ++ rest) (search rules) (ap (λ (z : List ℕ). z ++ rest) c.copy_from_slice.ensures.after)
 
 pub loop-i-preserved : goal.loop-i-preserved
 loop-i-preserved c =
     let key : List ℕ = c.args.key.now in
     let nk : ℕ = length key / 4 in
-    let old : List ℕ = c.copy-from-slice.new.self ++ drop (length key) c.args.schedule.now in
+    let old : List ℕ = c.copy_from_slice.new.self ++ drop (length key) c.args.schedule.now in
     let p : 0 < length c.args.key.now / 4 = search rules in
     let l : length c.args.key.now ≡ 4 * (length c.args.key.now / 4) = search rules in
     let k : 4 * c.loop-i.i + 4 - 4 * c.loop-i.i ≡ 4 = omega arith in
-    words_more nk key p l c.loop-i.i _ old c.loop-i.schedule c.copy-from-slice-in-loop-i.new.self (search rules) k
-    (c.copy-from-slice-in-loop-i.ensures.after ∙ c.next-word-next.ensures ∙ word_next nk key p l c.loop-i.i old c.loop-i.schedule _ (search rules) refl c.loop-i.invariant)
+    words_more nk key p l c.loop-i.i _ old c.loop-i.schedule c.copy_from_slice-in-loop-i.new.self (search rules) k
+    (c.copy_from_slice-in-loop-i.ensures.after ∙ c.next_word-next.ensures ∙ word_next nk key p l c.loop-i.i old c.loop-i.schedule _ (search rules) refl c.loop-i.invariant)
     c.loop-i.invariant
 
 pub returns : goal.returns
 returns c =
     let key : List ℕ = c.args.key.now in
     let nk : ℕ = length key / 4 in
-    let old : List ℕ = c.copy-from-slice.new.self ++ drop (length key) c.args.schedule.now in
+    let old : List ℕ = c.copy_from_slice.new.self ++ drop (length key) c.args.schedule.now in
     let p : 0 < length c.args.key.now / 4 = search rules in
     let l : length c.args.key.now ≡ 4 * (length c.args.key.now / 4) = search rules in
-    let o : length (c.copy-from-slice.new.self ++ drop (length c.args.key.now) c.args.schedule.now) ≡ length c.args.schedule.now =
+    let o : length (c.copy_from_slice.new.self ++ drop (length c.args.key.now) c.args.schedule.now) ≡ length c.args.schedule.now =
     simp (length-append, length-drop) (search rules) in
     let n : c.loop-i.i - length c.args.key.now / 4 ≡ length c.args.schedule.now / 4 - length c.args.key.now / 4 = omega arith in
     words_all nk key p l c.loop-i.i old c.loop-i.schedule (omega arith) c.loop-i.invariant ∙ ap (expanded nk key) n

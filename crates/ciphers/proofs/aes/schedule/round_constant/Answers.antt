@@ -10,7 +10,7 @@ unfolding round_constant power
 loop-i-init c = (refl, search rules)
 
 pub loop-i-preserved : goal.loop-i-preserved
-loop-i-preserved c = (c.double-power.ensures ∙ ap (product 2) c.loop-i.invariant.0 ∙ constant_more c.loop-i.-i (search rules), search rules)
+loop-i-preserved c = (c.double-power.ensures ∙ ap (product 2) c.loop-i.invariant.0 ∙ constant_more c.loop-i._i (search rules), search rules)
 
 pub returns : goal.returns
-returns c = c.loop-i.invariant.0 ∙ constant_same c.loop-i.-i c.args.j (omega arith)
+returns c = c.loop-i.invariant.0 ∙ constant_same c.loop-i._i c.args.j (omega arith)

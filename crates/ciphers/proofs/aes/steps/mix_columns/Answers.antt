@@ -10,8 +10,8 @@ loop-i-init c = refl
 pub loop-i-preserved : goal.loop-i-preserved
 unfolding mix_column
 loop-i-preserved c =
-    column_more mix_column c.loop-i.i (4 * c.loop-i.i + 4 - 4 * c.loop-i.i) c.args.from.now c.args.to.now c.loop-i.to c.mix-column.new.to
-    (λ w. refl) (omega arith) c.mix-column.ensures c.loop-i.invariant
+    column_more mix_column c.loop-i.i (4 * c.loop-i.i + 4 - 4 * c.loop-i.i) c.args.from.now c.args.to.now c.loop-i.to c.mix_column.new.to
+    (λ w. refl) (omega arith) c.mix_column.ensures c.loop-i.invariant
 
 pub returns : goal.returns
 unfolding mix_columns
