@@ -1,7 +1,7 @@
 -- Sealing depends only on what the two functions do to blocks.
-use Rattle.std.proofs.Common.{◌≡◌, ℕ, zero, suc, ◌+◌, ◌-◌, ◌*◌, ◌/◌, ◌%◌, ◌^◌, ◌<◌, ◌≤◌, Bool, true, false, cond, eqb, List, [], ◌∷◌, ◌++◌, reverse, length, get_or, take, drop, sym, refl, ap, ◌∙◌, subst, arith, length-drop, length-take}
+use Rattle.std.proofs.Common.{◌≡◌, ℕ, zero, suc, ◌-◌, ◌*◌, ◌%◌, ◌^◌, ◌<◌, Bool, true, false, cond, eqb, List, [], ◌∷◌, ◌++◌, length, drop, refl, ap, ◌∙◌, subst, arith}
 use Rattle.base.specs.Bytes.{AllBytes, Block, xor_front, zeros}
-use Rattle.base.specs.Blocks.{Message, block_at, last_index, tail_of, blocks_joined, assembled, zero_padded, ended_by}
+use Rattle.base.specs.Blocks.{Message, block_at, last_index, tail_of, zero_padded, ended_by}
 use Rattle.base.specs.Numbers.{number, bytes}
 use Rattle.base.proofs.Strings.{take_bytes, drop_bytes, append_bytes, zeros_bytes, zeros_long, front_long, front_bytes, cons_bytes, reverse_bytes}
 use Rattle.base.proofs.Cutting.{block_block}

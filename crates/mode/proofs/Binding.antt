@@ -1,5 +1,5 @@
 -- CMAC gives blocks, so beta one and beta two are elements of the field.
-use Rattle.std.proofs.Common.{ℕ, zero, suc, ◌+◌, ◌-◌, ◌*◌, ◌%◌, ◌^◌, ◌<◌, Bool, true, false, cond, eqb, List, ◌∷◌, ◌++◌, length, drop, ◌∙◌, arith}
+use Rattle.std.proofs.Common.{ℕ, zero, suc, ◌-◌, ◌*◌, ◌%◌, ◌^◌, ◌<◌, Bool, true, false, cond, eqb, List, ◌∷◌, ◌++◌, length, drop, ◌∙◌, arith}
 use Rattle.base.specs.Bytes.{AllBytes, Block, xor_front, zeros}
 use Rattle.base.specs.Numbers.{bytes}
 use Rattle.base.specs.Blocks.{block_at, zero_padded, ended_by}

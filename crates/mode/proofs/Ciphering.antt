@@ -1,5 +1,5 @@
 -- Enciphering and its undoing, each the other's inverse.
-use Rattle.std.proofs.Common.{◌≡◌, ℕ, ◌+◌, ◌<◌, List, [], ◌∷◌, ◌++◌, length, sym, refl, ap, ◌∙◌, subst, arith}
+use Rattle.std.proofs.Common.{◌≡◌, ℕ, ◌<◌, List, [], ◌∷◌, ◌++◌, length, sym, refl, ap, ◌∙◌, subst, arith}
 use Rattle.base.specs.Bytes.{Block, xor_front}
 use Rattle.base.specs.Blocks.{Message, block_at, last_index, tail_of, blocks_joined, assembled}
 use Rattle.base.proofs.Strings.{front_twice, front_long, front_bytes}

@@ -1,3 +1,4 @@
+#![tactic(auto)]
 // Sealing messages by the published HEH mode over any block cipher, and what it is made of.
 mod blocks;
 mod calls;

@@ -1,4 +1,4 @@
-use Rattle.std.proofs.Common.{◌≡◌, ℕ, ◌+◌, ◌*◌, ◌/◌, List, ◌++◌, length, drop, refl, ap, ◌∙◌, arith, rules}
+use Rattle.std.proofs.Common.{◌≡◌, ℕ, ◌*◌, ◌/◌, List, ◌++◌, length, drop, refl, ap, ◌∙◌, arith, rules}
 use Rattle.base.specs.Bytes.{AllBytes}
 use Rattle.base.specs.Blocks.{blocks_joined, block_at}
 use Rattle.mode.proofs.Steps.{each_more}

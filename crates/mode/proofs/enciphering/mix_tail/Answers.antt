@@ -7,5 +7,5 @@ pub returns : goal.returns
 returns c =
     let n : ℕ = last_index c.args.message.now in
     let k : n * 16 + 16 - n * 16 ≡ 16 = omega arith in
-    mixed_in c.args.message.now c.xor-front.new.a c.copy-from-slice.new.self c.requires
-    (c.copy-from-slice.ensures.after ∙ ap (λ (z : ℕ). take z (drop (n * 16) c.args.message.now)) k) c.xor-front.ensures
+    mixed_in c.args.message.now c.xor_front.new.a c.copy_from_slice.new.self c.requires
+    (c.copy_from_slice.ensures.after ∙ ap (λ (z : ℕ). take z (drop (n * 16) c.args.message.now)) k) c.xor_front.ensures

@@ -9,5 +9,5 @@ use Rattle.mode.proofs.hashing.hash.Goals as goal
 pub returns : goal.returns
 returns c =
     let m : List ℕ = c.args.message.now in
-    ap Ok (c.to-le-bytes.ensures ∙ to_le_128 c.poly-hash.result ∙ ap (bytes 16) (c.poly-hash.ensures ∙ ap (λ (t : ℕ). hash_of t m) c.element.ensures))
-    ∙ sym (passed_too (message_checks (length m)) 0 c.in-ok-check-message.field-0 (Ok (bytes 16 (hash_of (number c.args.tau.now) m))) (sym c.in-ok-check-message.ensures.answer))
+    ap Ok (c.to_le_bytes.ensures ∙ to_le_128 c.poly_hash.result ∙ ap (bytes 16) (c.poly_hash.ensures ∙ ap (λ (t : ℕ). hash_of t m) c.element.ensures))
+    ∙ sym (passed_too (message_checks (length m)) 0 c.in_ok-check_message.field-0 (Ok (bytes 16 (hash_of (number c.args.tau.now) m))) (sym c.in_ok-check_message.ensures.answer))

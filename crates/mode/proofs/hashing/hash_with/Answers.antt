@@ -11,6 +11,6 @@ pub returns : goal.returns
 unfolding hashed
 returns c =
     let m : List ℕ = c.args.message.now in
-    let F : ℕ → List ℕ = spread c.poly-hash-r.result c.args.beta m in
-    c.put-element.ensures ∙ done_last F m c.spread-over.new.message (last_index m) (λ j h. bytes_long 16 _) c.spread-over.ensures _ refl c.requires
-    ∙ ap (λ (r : ℕ). assembled (spread r c.args.beta m) (last_index m) (bytes 16 (bit_xor r c.args.beta)) (tail_of m)) c.poly-hash-r.ensures
+    let F : ℕ → List ℕ = spread c.poly_hash-r.result c.args.beta m in
+    c.put_element.ensures ∙ done_last F m c.spread_over.new.message (last_index m) (λ j h. bytes_long 16 _) c.spread_over.ensures _ refl c.requires
+    ∙ ap (λ (r : ℕ). assembled (spread r c.args.beta m) (last_index m) (bytes 16 (bit_xor r c.args.beta)) (tail_of m)) c.poly_hash-r.ensures

@@ -15,9 +15,9 @@ pub loop-i-preserved : goal.loop-i-preserved
 loop-i-preserved c =
     let fit : AllBytes c.args.message.now = search rules in
     let m : Message c.args.message.now = record { long = c.requires; fit = fit } in
-    weighed_more c.args.tau (search rules) (λ i. element_at i c.args.message.now) c.loop-i.i c.loop-i.sum c.element-at.result c.times-sum.result
-    (λ i h. parts_lt c.args.message.now m i (omega arith)) c.loop-i.invariant c.element-at.ensures
-    (c.times-sum.ensures ∙ ap (λ (t : ℕ). field_product t (bit_xor c.loop-i.sum c.element-at.result)) c.new-factor.ensures)
+    weighed_more c.args.tau (search rules) (λ i. element_at i c.args.message.now) c.loop-i.i c.loop-i.sum c.element_at.result c.times-sum.result
+    (λ i h. parts_lt c.args.message.now m i (omega arith)) c.loop-i.invariant c.element_at.ensures
+    (c.times-sum.ensures ∙ ap (λ (t : ℕ). field_product t (bit_xor c.loop-i.sum c.element_at.result)) c.new-factor.ensures)
 
 pub returns : goal.returns
 returns c =
@@ -31,6 +31,6 @@ returns c =
     let b : c.times.result ≡ before c.args.tau F n (tail_element m) =
     weighed_all c.args.tau (search rules) F n c.loop-i.sum (tail_element m) c.times.result
     (λ i h. parts_lt m hm i (omega arith)) (tail_element_lt m hm) w
-    (c.times.ensures ∙ ap (λ (t : ℕ). field_product t (bit_xor c.loop-i.sum c.tail-element.result)) c.new-factor.ensures ∙ ap (λ (z : ℕ). field_product c.args.tau (bit_xor c.loop-i.sum z)) c.tail-element.ensures) in
-    ap (λ (z : ℕ). bit_xor z c.element-at-2.result) b ∙ ap (bit_xor (before c.args.tau F n (tail_element m))) c.element-at-2.ensures
+    (c.times.ensures ∙ ap (λ (t : ℕ). field_product t (bit_xor c.loop-i.sum c.tail_element.result)) c.new-factor.ensures ∙ ap (λ (z : ℕ). field_product c.args.tau (bit_xor c.loop-i.sum z)) c.tail_element.ensures) in
+    ap (λ (z : ℕ). bit_xor z c.element_at-2.result) b ∙ ap (bit_xor (before c.args.tau F n (tail_element m))) c.element_at-2.ensures
     ∙ sym (hash_is c.args.tau m c.requires)

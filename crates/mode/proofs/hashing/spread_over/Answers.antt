@@ -21,8 +21,8 @@ loop-i-preserved c =
     let F : ℕ → List ℕ = spread r c.args.beta m in
     let b : c.double-multiple.result ≡ field_product (field_power 2 (i + 1)) c.args.beta =
     c.double-multiple.ensures ∙ ap times_z c.loop-i.invariant.1 ∙ multiple_more i c.args.beta (search rules) in
-    let x : c.element-at.result ≡ element_at i m = c.element-at.ensures ∙ ap number (done_block F m c.loop-i.message i (λ j h. bytes_long 16 _) c.loop-i.invariant.0) in (
-      c.put-element.ensures ∙ done_more F m c.loop-i.message i (λ j h. bytes_long 16 _) c.loop-i.invariant.0 _
+    let x : c.element_at.result ≡ element_at i m = c.element_at.ensures ∙ ap number (done_block F m c.loop-i.message i (λ j h. bytes_long 16 _) c.loop-i.invariant.0) in (
+      c.put_element.ensures ∙ done_more F m c.loop-i.message i (λ j h. bytes_long 16 _) c.loop-i.invariant.0 _
           (ap (λ (z : ℕ). bytes 16 (bit_xor z (bit_xor r c.double-multiple.result))) x ∙ ap (λ (z : ℕ). bytes 16 (bit_xor (element_at i m) (bit_xor r z))) b),
       b,
     )

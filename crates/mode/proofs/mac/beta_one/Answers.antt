@@ -17,6 +17,6 @@ returns g c =
     let e : c.absorb-2.new.state ≡ s = c.absorb-2.ensures ∙ ap (λ (z : List ℕ). chained f z ((length a + 15) / 16) (zero_padded a)) c.absorb.ensures in
     c.element.ensures
     ∙ ap number (c.finish.ensures
-    ∙ ap (λ (z : List ℕ). f (xor_front z (last_masked f c.length-block-lengths.result))) e
-    ∙ ap (λ (z : List ℕ). f (xor_front s (last_masked f z))) c.length-block-lengths.ensures
+    ∙ ap (λ (z : List ℕ). f (xor_front z (last_masked f c.length_block-lengths.result))) e
+    ∙ ap (λ (z : List ℕ). f (xor_front s (last_masked f z))) c.length_block-lengths.ensures
     ∙ cmac_bound f n a c.args.message)

@@ -13,6 +13,6 @@ loop-i-preserved g c =
     let i : ℕ = c.loop-i.i in
     let k : i * 16 + 16 - i * 16 ≡ 16 = omega arith in
     c.encrypt.ensures
-    ∙ ap f (c.xor-front.ensures ∙ ap (λ (j : ℕ). xor_front c.loop-i.state (take j (drop (i * 16) c.args.input.now))) k
+    ∙ ap f (c.xor_front.ensures ∙ ap (λ (j : ℕ). xor_front c.loop-i.state (take j (drop (i * 16) c.args.input.now))) k
     ∙ ap (λ (z : List ℕ). xor_front z (block_at i c.args.input.now)) c.loop-i.invariant)
     ∙ sym (chained_more f c.args.state.now i c.args.input.now)

@@ -8,5 +8,5 @@ use Rattle.mode.proofs.mac.double_block.Goals as goal
 pub returns : goal.returns
 unfolding doubled
 returns c =
-    c.to-be-bytes.ensures ∙ to_be_128 c.double.result
-    ∙ ap (λ (z : ℕ). reverse (bytes 16 z)) (c.double.ensures ∙ ap times_z (c.from-be-bytes.ensures ∙ from_be_128 c.args.block (search rules)))
+    c.to_be_bytes.ensures ∙ to_be_128 c.double.result
+    ∙ ap (λ (z : ℕ). reverse (bytes 16 z)) (c.double.ensures ∙ ap times_z (c.from_be_bytes.ensures ∙ from_be_128 c.args.block (search rules)))

@@ -8,5 +8,5 @@ pub returns : goal.returns
 unfolding opened_with
 returns g c =
     let f : List ℕ → List ℕ = g.C.BlockCipher.back (g.C.BlockCipher.key_of c.args.blk.now) in
-    c.unhash-with.ensures
-    ∙ ap (unhashed c.args.tau c.args.one) (c.decipher.ensures ∙ ap (deciphered f) (c.hash-with.ensures ∙ ap (λ (z : ℕ). hashed c.args.tau z c.args.message.now) c.beta-two-two.ensures))
+    c.unhash_with.ensures
+    ∙ ap (unhashed c.args.tau c.args.one) (c.decipher.ensures ∙ ap (deciphered f) (c.hash_with.ensures ∙ ap (λ (z : ℕ). hashed c.args.tau z c.args.message.now) c.beta_two-two.ensures))

@@ -9,5 +9,5 @@ pub returns : goal.returns
 unfolding sealed_with
 returns g c =
     let f : List ℕ → List ℕ = g.C.BlockCipher.forward (g.C.BlockCipher.key_of c.args.blk.now) in
-    c.unhash-with.ensures ∙ ap (λ (z : ℕ). unhashed c.args.tau z c.encipher.new.message) c.beta-two-two.ensures
-    ∙ ap (unhashed c.args.tau (times_z c.args.one)) (c.encipher.ensures ∙ ap (enciphered f) c.hash-with.ensures)
+    c.unhash_with.ensures ∙ ap (λ (z : ℕ). unhashed c.args.tau z c.encipher.new.message) c.beta_two-two.ensures
+    ∙ ap (unhashed c.args.tau (times_z c.args.one)) (c.encipher.ensures ∙ ap (enciphered f) c.hash_with.ensures)

@@ -10,15 +10,15 @@ pub returns : goal.returns
 returns g c =
     let b : List ℕ = c.args.bundle.now in
     let fit : AllBytes b = search rules in
-    let n : ℕ = c.stated-key-len-n.result in
+    let n : ℕ = c.stated_key_len-n.result in
     let l : length b ≡ 16 + 2 * n = omega arith in
-    let k : length b ≡ 16 + 2 * g.C.BlockCipher.key_length = l ∙ ap (λ (x : ℕ). 16 + 2 * x) c.stated-key-len-n.ensures in
+    let k : length b ≡ 16 + 2 * g.C.BlockCipher.key_length = l ∙ ap (λ (x : ℕ). 16 + 2 * x) c.stated_key_len-n.ensures in
     let e : 16 + n - 16 ≡ n = omega arith in
-    let p : g.C.BlockCipher.key_of c.in-ok-prf.prf ≡ take n (drop 16 b) = c.in-ok-prf.ensures.1 ∙ ap (λ (x : ℕ). take x (drop 16 b)) e in
-    let q : g.C.BlockCipher.key_of c.in-ok-blk.blk ≡ drop (16 + n) b = c.in-ok-blk.ensures.1 ∙ take_rest b (16 + n) in
+    let p : g.C.BlockCipher.key_of c.in_ok-prf.prf ≡ take n (drop 16 b) = c.in_ok-prf.ensures.1 ∙ ap (λ (x : ℕ). take x (drop 16 b)) e in
+    let q : g.C.BlockCipher.key_of c.in_ok-blk.blk ≡ drop (16 + n) b = c.in_ok-blk.ensures.1 ∙ take_rest b (16 + n) in
     ap Ok
-    (ap (λ (t : ℕ). bytes 16 t ++ (g.C.BlockCipher.key_of c.in-ok-prf.prf ++ g.C.BlockCipher.key_of c.in-ok-blk.blk)) c.element-tau.ensures
-    ∙ ap (λ (z : List ℕ). bytes 16 (number (take 16 b)) ++ (z ++ g.C.BlockCipher.key_of c.in-ok-blk.blk)) p
+    (ap (λ (t : ℕ). bytes 16 t ++ (g.C.BlockCipher.key_of c.in_ok-prf.prf ++ g.C.BlockCipher.key_of c.in_ok-blk.blk)) c.element-tau.ensures
+    ∙ ap (λ (z : List ℕ). bytes 16 (number (take 16 b)) ++ (z ++ g.C.BlockCipher.key_of c.in_ok-blk.blk)) p
     ∙ ap (λ (z : List ℕ). bytes 16 (number (take 16 b)) ++ (take n (drop 16 b) ++ z)) q
     ∙ bundle_again b n fit l)
     ∙ bundle_passes g.C.BlockCipher.key_length (length b) (Ok b) k

@@ -27,8 +27,8 @@ returns g c =
     let fm : AllBytes m = search rules in
     let fn : AllBytes nonce = search rules in
     let fa : AllBytes ad = search rules in
-    let e : c.open-with.new.message ≡ opened_under forward back n bundle nonce ad m =
-    c.open-with.ensures ∙ ap (λ (z : ℕ). opened_with (back blk) tau z (times_z z) m) c.beta-one-one.ensures
+    let e : c.open_with.new.message ≡ opened_under forward back n bundle nonce ad m =
+    c.open_with.ensures ∙ ap (λ (z : ℕ). opened_with (back blk) tau z (times_z z) m) c.beta_one-one.ensures
     ∙ opened_parts tau n prf blk fits hp.long hk.long forward back nonce ad m in
     let laws = under_bundle forward back n
     (λ k h. record {

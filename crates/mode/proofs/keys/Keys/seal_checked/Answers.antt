@@ -27,8 +27,8 @@ returns g c =
     let fm : AllBytes m = search rules in
     let fn : AllBytes nonce = search rules in
     let fa : AllBytes ad = search rules in
-    let e : c.seal-with.new.message ≡ sealed_under forward n bundle nonce ad m =
-    c.seal-with.ensures ∙ ap (λ (z : ℕ). sealed_with (forward blk) tau z (times_z z) m) c.beta-one-one.ensures
+    let e : c.seal_with.new.message ≡ sealed_under forward n bundle nonce ad m =
+    c.seal_with.ensures ∙ ap (λ (z : ℕ). sealed_with (forward blk) tau z (times_z z) m) c.beta_one-one.ensures
     ∙ sealed_parts tau n prf blk fits hp.long hk.long forward nonce ad m in
     let laws = under_bundle forward back n
     (λ k h. record {

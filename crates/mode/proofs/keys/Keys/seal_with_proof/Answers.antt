@@ -12,7 +12,7 @@ returns g c =
     let k : put_mid (length m - 16) (length m - (length m - 16)) m c.wipe.new.s ≡ spare_zeroed m = wiped_spare m c.wipe.new.s (search rules) c.wipe.ensures in
     record {
       answer = search rules;
-      after = c.seal-checked.ensures.after
+      after = c.seal_checked.ensures.after
           ∙ ap (sealed_under g.C.BlockCipher.forward g.C.BlockCipher.key_length (bundle_of g.C.BlockCipher.key_of c.args.self.now) c.args.nonce.now c.args.ad.now) k;
-      back = c.seal-checked.ensures.back ∙ k;
+      back = c.seal_checked.ensures.back ∙ k;
     }
