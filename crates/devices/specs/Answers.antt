@@ -1,5 +1,5 @@
 -- What each call of a device answers, what the device then holds, and what is left in the caller's row or buffer.
-use Rattle.std.specs.Prelude.{ℕ, ◌+◌, Bool, true, false, ◌||◌, List, [], ◌∷◌, ◌++◌, length, drop, set, Ok, Err, Result, nat_le, nat_lt, slice_index_or, slice_set}
+use Rattle.std.specs.Prelude.{ℕ, ◌+◌, Bool, true, false, ◌||◌, List, [], ◌∷◌, ◌++◌, length, drop, Ok, Err, Result, nat_le, nat_lt, slice_index_or, slice_set}
 use Rattle.base.specs.declared.refusals.Refusal.{Refusal}
 use Rattle.base.specs.declared.refusals.Refusal.TheVariants.{NoSuchSlot, WrongLength, EmptySlot, BufferTooShort, NoRoom}
 use Rattle.base.specs.Bytes.{zeros}

@@ -23,14 +23,14 @@ fn begins_with(front: &[u8], bytes: &[u8]) -> bool
 
 // Whether the slot's row begins with `front`; the row is read into the work buffer.
 fn slot_begins<D: SlotDevice>(device: &mut D, slot: usize, front: &[u8], work: &mut [u8]) -> bool
-    requires room { (shape device.old).longest ≤ length work.old }
-    requires inside { slot < (shape device.old).slots }
-    ensures answer { result ≡ slot_begins front.now (slice_index_or (held device.old) slot nothing) }
-    ensures rest { drop (shape device.old).longest work.new ≡ drop (shape device.old).longest work.old }
-    ensures fixed { fixed device.new ≡ fixed device.old }
-    ensures shape { shape device.new ≡ shape device.old }
-    ensures held { held device.new ≡ held device.old }
-    ensures kept { state device.new ≡ state device.old }
+    requires room { (D.shape device.old).longest ≤ length work.old }
+    requires inside { slot < (D.shape device.old).slots }
+    ensures answer { result ≡ slot_begins front.now (slice_index_or (D.held device.old) slot nothing) }
+    ensures rest { drop (D.shape device.old).longest work.new ≡ drop (D.shape device.old).longest work.old }
+    ensures fixed { D.fixed device.new ≡ D.fixed device.old }
+    ensures shape { D.shape device.new ≡ D.shape device.old }
+    ensures held { D.held device.new ≡ D.held device.old }
+    ensures kept { D.state device.new ≡ D.state device.old }
 {
     match device.read(slot, work) {
         Ok(n) => begins_with(front, &work[0..n]),
@@ -40,13 +40,13 @@ fn slot_begins<D: SlotDevice>(device: &mut D, slot: usize, front: &[u8], work: &
 
 // The first slot whose row begins with `front`; rows are read into the work buffer.
 fn first_match<D: SlotDevice>(device: &mut D, front: &[u8], work: &mut [u8]) -> Option<usize>
-    requires { (shape device.old).longest ≤ length work.old }
-    ensures answer { Found front.now (held device.old) result }
-    ensures rest { drop (shape device.old).longest work.new ≡ drop (shape device.old).longest work.old }
-    ensures fixed { fixed device.new ≡ fixed device.old }
-    ensures shape { shape device.new ≡ shape device.old }
-    ensures held { held device.new ≡ held device.old }
-    ensures kept { state device.new ≡ state device.old }
+    requires { (D.shape device.old).longest ≤ length work.old }
+    ensures answer { Found front.now (D.held device.old) result }
+    ensures rest { drop (D.shape device.old).longest work.new ≡ drop (D.shape device.old).longest work.old }
+    ensures fixed { D.fixed device.new ≡ D.fixed device.old }
+    ensures shape { D.shape device.new ≡ D.shape device.old }
+    ensures held { D.held device.new ≡ D.held device.old }
+    ensures kept { D.state device.new ≡ D.state device.old }
 {
     for slot in 0..device.slots() {
         if slot_begins(device, slot, front, work) {
@@ -63,12 +63,12 @@ pub fn find<D: SlotDevice>(
     front: &[u8],
     work: &mut [u8],
 ) -> Result<Option<usize>, Refusal>
-    ensures answer { FindAnswer (shape device.old) (held device.old) front.now (length work.old) result }
-    ensures after { work.new ≡ work_after_find (shape device.old) result work.old }
-    ensures fixed { fixed device.new ≡ fixed device.old }
-    ensures shape { shape device.new ≡ shape device.old }
-    ensures held { held device.new ≡ held device.old }
-    ensures kept { state device.new ≡ state device.old }
+    ensures answer { FindAnswer (D.shape device.old) (D.held device.old) front.now (length work.old) result }
+    ensures after { work.new ≡ work_after_find (D.shape device.old) result work.old }
+    ensures fixed { D.fixed device.new ≡ D.fixed device.old }
+    ensures shape { D.shape device.new ≡ D.shape device.old }
+    ensures held { D.held device.new ≡ D.held device.old }
+    ensures kept { D.state device.new ≡ D.state device.old }
 {
     let longest = device.longest();
     if work.len() < longest {

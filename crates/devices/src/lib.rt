@@ -1,3 +1,4 @@
+#![tactic(auto)]
 // Slot devices: what every device keeps, its limits, and finding a row on any of them.
 pub mod device;
 pub mod finding;
