@@ -1,3 +1,4 @@
+#![tactic(auto)]
 // The tray device: memory with one cell for each slot.
 ghost use Rattle.std.specs.Prelude.{◌≡◌, true, length};
 ghost use Rattle.base.specs.Bytes.{AllBytes};
