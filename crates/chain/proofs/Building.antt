@@ -1,10 +1,10 @@
 -- Laying a row into free cells, from its last piece to its first.
-use Rattle.std.proofs.Common.{◌≡◌, ℕ, zero, suc, ◌+◌, ◌-◌, ◌*◌, ◌/◌, ◌%◌, ◌<◌, ◌≤◌, ◌⊎◌, List, [], ◌∷◌, ◌++◌, length, get_or, take, drop, set, sym, refl, ap, ◌∙◌, subst, inl, inr, ⊎_elim, arith}
-use Rattle.std.proofs.lemmas.List.{set-get_or, set-set, length-set, get_or-set_same, get_or-take, drop_all, drop-drop, length-drop, length-take-le, take-append-drop, nil_from_length, drop-set-lt}
+use Rattle.std.proofs.Common.{◌≡◌, ℕ, ◌+◌, ◌-◌, ◌*◌, ◌/◌, ◌%◌, ◌<◌, ◌≤◌, ◌⊎◌, List, [], ◌++◌, length, get_or, take, drop, set, sym, refl, ap, ◌∙◌, subst, inl, inr, ⊎_elim, arith}
+use Rattle.std.proofs.lemmas.List.{set-get_or, set-set, length-set, get_or-set_same, drop_all, drop-drop, length-drop, length-take-le, take-append-drop, nil_from_length, drop-set-lt}
 use Rattle.std.proofs.lemmas.Bool.{cases_eq, cases_lt}
 use Rattle.base.specs.Bytes.{AllBytes}
 use Rattle.base.proofs.Strings.{append_bytes}
-use Rattle.chain.specs.Cells.{used_of, cell_of, put_cell, chain_units, chains_of, rows_of}
+use Rattle.chain.specs.Cells.{used_of, cell_of, put_cell, chain_units, chains_of}
 use Rattle.chain.specs.Memory.{LinkedIn, rows_in, other_chains, RowPut}
 use Rattle.chain.proofs.Plans.{Before, cell_same, cell_other, length_cell}
 use Rattle.chain.proofs.Has.{Has, cost, rows_are, has_push, push_others, has_none, has_free, cost_set}

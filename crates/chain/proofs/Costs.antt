@@ -1,9 +1,8 @@
 -- What rows on chains cost.
-use Rattle.std.proofs.Common.{◌≡◌, ℕ, zero, suc, ◌+◌, ◌-◌, ◌*◌, ◌/◌, ◌<◌, ◌≤◌, ◌⊎◌, List, [], ◌∷◌, map, length, get_or, take, drop, set, sym, refl, ap, ◌∙◌, subst, inl, inr, ⊎_elim, arith}
+use Rattle.std.proofs.Common.{◌≡◌, ℕ, ◌+◌, ◌<◌, ◌≤◌, List, [], ◌∷◌, map, length, get_or, take, set, sym, refl, ap, ◌∙◌, subst, arith}
 use Rattle.std.proofs.lemmas.List.{map-set, length-set, get_or-set_same, get_or-set_other, take_all}
 use Rattle.std.proofs.lemmas.List.Sums.{sum_by-cons, sum_by_more}
-use Rattle.std.proofs.lemmas.Bool.{cases_eq}
-use Rattle.devices.specs.Slots.{Slot, nothing, row, Shape, units_in, units_held, units_of_others}
+use Rattle.devices.specs.Slots.{units_in, units_held, units_of_others}
 use Rattle.chain.specs.Cells.{chain_units}
 use Rattle.chain.specs.Memory.{rows_in, slot_in, chain_held, chain_shape, RowPut}
 use Rattle.chain.proofs.Has.{cost}

@@ -1,13 +1,13 @@
 -- Memory that is all zero is well formed and holds nothing; and what right dimensions say.
-use Rattle.std.proofs.Common.{◌≡◌, ℕ, zero, suc, ◌+◌, ◌-◌, ◌*◌, ◌<◌, ◌≤◌, true, false, ◌&&◌, eqb, leb, ◌⊎◌, List, [], ◌∷◌, map, length, get_or, take, drop, replicate, sym, refl, ap, ◌∙◌, subst, inl, inr, ⊎_elim, arith}
+use Rattle.std.proofs.Common.{◌≡◌, ℕ, zero, suc, ◌+◌, ◌-◌, ◌*◌, ◌<◌, ◌≤◌, true, false, ◌&&◌, eqb, leb, List, [], ◌∷◌, map, length, get_or, take, drop, replicate, refl, ap, ◌∙◌, arith}
 use Rattle.std.proofs.lemmas.List.{length-replicate, get_or-replicate, take-replicate, drop-replicate}
 use Rattle.std.proofs.lemmas.List.Sums.{sum_by-cons}
 use Rattle.std.proofs.lemmas.Bool.{and_parts, leb-true, le-leb, eqb-true, eq-eqb, not-false}
 use Rattle.base.specs.Bytes.{zeros}
-use Rattle.devices.specs.Slots.{Slot, nothing, RowFits}
+use Rattle.devices.specs.Slots.{nothing}
 use Rattle.devices.specs.Limits.{Limits, within_limits}
-use Rattle.chain.specs.Cells.{cell, chain_from, row_in, chains_of, rows_of, times_in, times_on, RightChain}
-use Rattle.chain.specs.Memory.{slot_in, chain_held, chain_shape, holds_nothing, WellFormed, wrong_dimensions}
+use Rattle.chain.specs.Cells.{chain_from, row_in, chains_of, times_in, times_on}
+use Rattle.chain.specs.Memory.{slot_in, chain_held, holds_nothing, WellFormed, wrong_dimensions}
 use Rattle.chain.specs.Soundness.{CellLimits}
 use Rattle.chain.proofs.Right.{right_none}
 

@@ -1,12 +1,12 @@
 -- Following the chains: what is known at each cell, and what all of it says of memory.
-use Rattle.std.proofs.Common.{◌≡◌, ℕ, zero, suc, ◌+◌, ◌-◌, ◌*◌, ◌<◌, ◌≤◌, ◌⊎◌, List, [], ◌∷◌, ◌++◌, map, length, get_or, take, drop, set, sym, refl, ap, ◌∙◌, subst, inl, inr, ⊎_elim, arith}
+use Rattle.std.proofs.Common.{◌≡◌, ℕ, ◌+◌, ◌-◌, ◌*◌, ◌<◌, ◌≤◌, List, [], ◌∷◌, length, get_or, take, drop, set, sym, refl, ap, ◌∙◌, subst, ⊎_elim, arith}
 use Rattle.std.proofs.lemmas.List.{length-map, get_or-map, get_or-set_same, get_or-set_other, get_or-replicate, get_or_past, length-replicate, take_all}
 use Rattle.std.proofs.lemmas.List.Sums.{sum_by_more, sum_by-take-le}
 use Rattle.std.proofs.lemmas.Bool.{cases_eq, cases_lt}
 use Rattle.base.specs.Bytes.{AllBytes, zeros}
 use Rattle.base.proofs.Strings.{append_bytes, take_bytes, drop_bytes}
-use Rattle.devices.specs.Slots.{Slot, nothing, row, RowFits}
-use Rattle.chain.specs.Cells.{cell, next_of, used_of, RightCell, RightChain, chain_from, row_in, chains_of, times_in, times_on, Linked}
+use Rattle.devices.specs.Slots.{nothing, RowFits}
+use Rattle.chain.specs.Cells.{cell, next_of, used_of, RightCell, RightChain, chain_from, row_in, chains_of, times_in, times_on}
 use Rattle.chain.specs.Memory.{slot_in, chain_held, rows_in, chain_shape, WellFormed}
 use Rattle.chain.proofs.Plans.{here, here_same, here_other}
 use Rattle.chain.proofs.Right.{right_more, right_less, right_none, row_more, row_none, count_more, count_zero}

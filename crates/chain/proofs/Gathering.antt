@@ -1,10 +1,10 @@
 -- Reading a row, cell by cell.
-use Rattle.std.proofs.Common.{◌≡◌, ℕ, zero, suc, ◌+◌, ◌-◌, ◌*◌, ◌/◌, ◌%◌, ◌<◌, ◌≤◌, ◌⊎◌, List, [], ◌∷◌, ◌++◌, map, length, get_or, take, drop, set, replicate, sym, refl, ap, ◌∙◌, subst, inl, inr, ⊎_elim, arith}
-use Rattle.std.proofs.lemmas.List.{length-drop, length-take, length-take-le, length-append, nil_from_length, drop-drop, drop_all, take_all, take_at, take-take, drop-take, append_assoc, take-append-drop, get_or-take}
+use Rattle.std.proofs.Common.{◌≡◌, ℕ, suc, ◌+◌, ◌*◌, ◌<◌, ◌≤◌, List, [], ◌∷◌, ◌++◌, length, get_or, take, drop, sym, ap, ◌∙◌, subst, ⊎_elim, arith}
+use Rattle.std.proofs.lemmas.List.{length-drop, length-take, length-take-le, drop-drop, drop_all, take_all, take_at, take-take, drop-take, append_assoc, take-append-drop, get_or-take}
 use Rattle.std.proofs.lemmas.Slice.{drop-append-drop}
 use Rattle.std.proofs.lemmas.Bool.{cases_lt}
-use Rattle.chain.specs.Cells.{cell, used_of, next_of, piece_of, chain_units}
-use Rattle.chain.proofs.Laid.{first, layout, Lies}
+use Rattle.chain.specs.Cells.{used_of, next_of, piece_of}
+use Rattle.chain.proofs.Laid.{layout, Lies}
 use Rattle.chain.proofs.Has.{begins_with}
 use Rattle.chain.proofs.Walks.{first_used, first_next, first_piece, other_cells}
 use Rattle.chain.specs.Memory.{LinkedIn, chains_in, rows_in}

@@ -1,12 +1,10 @@
 -- What cells and roots hold, with the cells of each chain found from the bytes.
-use Rattle.std.proofs.Common.{◌≡◌, ℕ, zero, suc, ◌+◌, ◌-◌, ◌*◌, ◌/◌, ◌%◌, ◌<◌, ◌≤◌, Bool, true, false, cond, eqb, ◌⊎◌, List, [], ◌∷◌, ◌++◌, map, length, get_or, take, drop, set, replicate, sum_by, count_by, sym, refl, ap, ◌∙◌, subst, inl, inr, ⊎_elim, arith}
-use Rattle.std.specs.List.{flat_map}
-use Rattle.std.proofs.lemmas.List.{ext_get_or, length-map, get_or-map, length-set, set-set, get_or-set_same, get_or-set_other}
+use Rattle.std.proofs.Common.{◌≡◌, ℕ, suc, ◌+◌, ◌-◌, ◌<◌, ◌≤◌, List, [], ◌∷◌, ◌++◌, length, get_or, drop, set, replicate, sum_by, sym, refl, ap, ◌∙◌, subst, arith}
+use Rattle.std.proofs.lemmas.List.{ext_get_or, length-map, get_or-map, set-set}
 use Rattle.std.proofs.lemmas.List.Sums.{sum_by-cons, sum_by-set, get_or-le-sum_by}
-use Rattle.std.proofs.lemmas.Bool.{cases_eq}
 use Rattle.chain.proofs.Parts.{put}
-use Rattle.chain.specs.Cells.{cell, next_of, used_of, chain_from, row_in, cell_of, chain_units, chains_of, rows_of, times_on}
-use Rattle.chain.proofs.Laid.{first, layout, Lies, Plan}
+use Rattle.chain.specs.Cells.{next_of, used_of, chain_from, row_in, cell_of, chain_units, chains_of, rows_of}
+use Rattle.chain.proofs.Laid.{first, Lies, Plan}
 use Rattle.chain.proofs.Plans.{Before, plan_push, plan_pop}
 use Rattle.chain.proofs.Walks.{walk_is, row_is, plan_room, plan_full, plan_unused}
 

@@ -1,14 +1,13 @@
 -- What a change of one slot's row leaves of the rest.
-use Rattle.std.proofs.Common.{◌≡◌, ℕ, zero, suc, ◌+◌, ◌-◌, ◌*◌, ◌<◌, ◌≤◌, eqb, ◌⊎◌, List, [], ◌∷◌, map, length, get_or, take, drop, set, sym, refl, ap, ◌∙◌, subst, inl, inr, ⊎_elim, arith}
-use Rattle.std.proofs.lemmas.List.{ext_get_or, length-map, length-set, map-set, get_or-map, get_or-set_same, get_or-set_other, nil_from_length}
+use Rattle.std.proofs.Common.{◌≡◌, ℕ, suc, ◌+◌, ◌*◌, ◌<◌, ◌≤◌, List, [], ◌∷◌, map, length, get_or, take, drop, set, sym, ap, ◌∙◌, subst, ⊎_elim, arith}
+use Rattle.std.proofs.lemmas.List.{ext_get_or, length-map, length-set, map-set, get_or-set_same, get_or-set_other, nil_from_length}
 use Rattle.std.proofs.lemmas.List.Sums.{sum_by-cons}
 use Rattle.std.proofs.lemmas.Bool.{cases_eq, cases_lt}
-use Rattle.base.specs.Bytes.{zeros}
-use Rattle.devices.specs.Slots.{Slot, nothing, row, RowFits}
-use Rattle.chain.specs.Cells.{cell, chain_from, row_in, times_in, times_on}
+use Rattle.devices.specs.Slots.{nothing, RowFits}
+use Rattle.chain.specs.Cells.{cell, chain_from, times_in, times_on}
 use Rattle.chain.specs.Memory.{chains_in, other_chains, rows_in, slot_in, chain_held, chain_shape, WellFormed, RowPut, Written, Cleared}
 use Rattle.chain.proofs.Laid.{first, layout, Lies}
-use Rattle.chain.proofs.Plans.{here, here_same, here_other, count_cons, times_set}
+use Rattle.chain.proofs.Plans.{here_other, count_cons, times_set}
 use Rattle.chain.proofs.Has.{Has}
 use Rattle.chain.proofs.Linked.{has_linked, rows_length}
 use Rattle.chain.proofs.Releasing.{cells_size, heads_size}

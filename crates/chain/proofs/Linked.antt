@@ -1,11 +1,10 @@
 -- Heads and cells that are linked rightly lay out the rows that the walks find, and the other way round.
-use Rattle.std.proofs.Common.{◌≡◌, ℕ, zero, suc, ◌+◌, ◌-◌, ◌*◌, ◌<◌, ◌≤◌, eqb, ◌⊎◌, List, [], ◌∷◌, map, length, get_or, take, drop, set, sym, refl, ap, ◌∙◌, subst, inl, inr, ⊎_elim, arith}
-use Rattle.std.proofs.lemmas.List.{length-map, get_or-map, length-set}
+use Rattle.std.proofs.Common.{◌≡◌, ℕ, ◌*◌, ◌<◌, ◌≤◌, List, [], length, get_or, ap, ◌∙◌, arith}
+use Rattle.std.proofs.lemmas.List.{length-map, get_or-map}
 use Rattle.std.proofs.lemmas.List.Sums.{get_or-le-sum_by}
-use Rattle.chain.specs.Cells.{cell, chain_from, row_in, chain_units, chains_of, rows_of, times_in, times_on, RightChain, Linked}
-use Rattle.chain.proofs.Laid.{Lies, Plan}
+use Rattle.chain.specs.Cells.{chain_from, row_in, chains_of, rows_of, Linked}
 use Rattle.chain.proofs.Walks.{plan_room}
-use Rattle.chain.proofs.Has.{Has, rows_are, has_cost}
+use Rattle.chain.proofs.Has.{Has}
 use Rattle.chain.proofs.Right.{right_lies, lies_right, walk_short}
 
 pub rows_length : (c : ℕ) (cs heads : List ℕ) → length (rows_of c cs heads) ≡ length heads

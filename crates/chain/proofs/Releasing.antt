@@ -1,10 +1,9 @@
 -- Giving back the cells of one chain, from its head on.
-use Rattle.std.proofs.Common.{◌≡◌, ℕ, zero, suc, ◌+◌, ◌-◌, ◌*◌, ◌<◌, ◌≤◌, List, [], ◌∷◌, length, get_or, take, drop, set, replicate, sym, refl, ap, ◌∙◌, subst, arith}
-use Rattle.std.proofs.lemmas.List.{set-get_or, set-set, length-set, get_or-set_same, get_or-take, length-drop, length-take, length-take-le, nil_from_length, take-set-le, drop-set-lt}
+use Rattle.std.proofs.Common.{◌≡◌, ℕ, zero, suc, ◌+◌, ◌*◌, ◌<◌, ◌≤◌, List, [], ◌∷◌, length, get_or, take, drop, set, sym, refl, ap, ◌∙◌, subst, arith}
+use Rattle.std.proofs.lemmas.List.{set-get_or, set-set, length-set, get_or-set_same, get_or-take, length-drop, length-take, length-take-le, nil_from_length, drop-set-lt}
 use Rattle.base.specs.Bytes.{zeros}
 use Rattle.chain.specs.Cells.{next_of, put_cell, chains_of, rows_of}
-use Rattle.chain.specs.Memory.{LinkedIn, rows_in, chains_in, other_chains, RowPut}
-use Rattle.chain.proofs.Parts.{length-put}
+use Rattle.chain.specs.Memory.{LinkedIn, rows_in, other_chains, RowPut}
 use Rattle.chain.proofs.Has.{Has, rows_are, has_pop, has_none, has_inside, pop_others}
 use Rattle.chain.proofs.Linked.{has_linked, linked_has}
 

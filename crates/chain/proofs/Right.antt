@@ -1,11 +1,10 @@
 -- A chain that is right, as a walk finds it.
-use Rattle.std.proofs.Common.{◌≡◌, ℕ, zero, suc, ◌+◌, ◌-◌, ◌*◌, ◌/◌, ◌<◌, ◌≤◌, Bool, true, false, cond, eqb, ◌⊎◌, List, [], ◌∷◌, ◌++◌, map, length, get_or, take, drop, replicate, count_by, sym, refl, ap, ◌∙◌, subst, inl, inr, ⊎_elim, arith}
-use Rattle.std.specs.List.{flat_map}
-use Rattle.std.proofs.lemmas.List.{length-append, length-take, length-take-le, length-drop, nil_from_length}
+use Rattle.std.proofs.Common.{◌≡◌, ℕ, zero, suc, ◌+◌, ◌-◌, ◌≤◌, eqb, List, [], ◌∷◌, ◌++◌, map, length, get_or, take, drop, count_by, sym, refl, ap, ◌∙◌, subst, inl, inr, ⊎_elim, arith}
+use Rattle.std.proofs.lemmas.List.{length-append, length-take, length-drop}
 use Rattle.std.proofs.lemmas.Bool.{cases_eq, ne_eqb, eq-eqb}
-use Rattle.chain.specs.Cells.{cell, next_of, used_of, piece_of, chain_from, row_in, cell_of, chain_units, times_on, RightCell, RightChain}
+use Rattle.chain.specs.Cells.{cell, next_of, used_of, piece_of, chain_from, row_in, cell_of, chain_units, RightCell, RightChain}
 use Rattle.chain.proofs.Laid.{first, layout, Lies}
-use Rattle.chain.proofs.Plans.{here, count_cons, Before, front, units_front, inside_cons, length_cell}
+use Rattle.chain.proofs.Plans.{here, count_cons, Before, front, units_front, inside_cons}
 use Rattle.chain.proofs.Walks.{first_cell, other_cells, first_next, first_used, first_piece}
 
 -- a cell in front of a chain, in the same memory

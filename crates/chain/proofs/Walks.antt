@@ -1,13 +1,11 @@
 -- What the functions of the bytes find of a plan: the cells of a chain, its row, and how many cells are used.
-use Rattle.std.proofs.Common.{◌≡◌, ℕ, zero, suc, ◌+◌, ◌-◌, ◌*◌, ◌/◌, ◌%◌, ◌<◌, ◌≤◌, Bool, true, false, cond, eqb, ◌⊎◌, List, [], ◌∷◌, ◌++◌, map, length, get_or, take, drop, set, replicate, sum_by, count_by, sym, refl, ap, ◌∙◌, subst, inl, inr, ⊎_elim, arith}
-use Rattle.std.specs.List.{flat_map}
-use Rattle.std.proofs.lemmas.List.{take_at, drop_at, take_all, drop_all, length-append, append-nil, length-drop, length-take, length-take-le, take-append-drop, nil_from_length}
+use Rattle.std.proofs.Common.{◌≡◌, ℕ, zero, suc, ◌+◌, ◌-◌, ◌<◌, ◌≤◌, false, eqb, List, [], ◌∷◌, map, length, get_or, take, drop, replicate, sum_by, count_by, sym, refl, ap, ◌∙◌, subst, ⊎_elim, arith}
+use Rattle.std.proofs.lemmas.List.{take_at, length-drop, length-take, take-append-drop, nil_from_length}
 use Rattle.std.proofs.lemmas.List.Sums.{sum_by-cons}
-use Rattle.std.proofs.lemmas.Bool.{cases_eq, eq-eqb, ne_eqb, eqb-true, eqb-false, cases_Bool}
-use Rattle.chain.proofs.Parts.{part, put}
+use Rattle.std.proofs.lemmas.Bool.{cases_eq, eq-eqb, ne_eqb}
 use Rattle.chain.specs.Cells.{cell, next_of, used_of, piece_of, chain_from, row_in, cell_of, chain_units, times_on}
-use Rattle.chain.proofs.Laid.{first, layout, Lies, Plan}
-use Rattle.chain.proofs.Plans.{here, count_cons, lies_next}
+use Rattle.chain.proofs.Laid.{first, layout, Plan}
+use Rattle.chain.proofs.Plans.{here, count_cons}
 
 abbrev pub Inside : ℕ → List ℕ → Type 0
 Inside c js = (p : ℕ) → p < length js → (1 ≤ get_or js p 0) × (get_or js p 0 ≤ c)

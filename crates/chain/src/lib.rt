@@ -1,3 +1,4 @@
+#![tactic(auto)]
 // The chain device: rows in chains of cells of 32 bytes.
 ghost use Rattle.std.specs.Prelude.{◌≡◌, ◌+◌, ◌*◌, length};
 ghost use Rattle.chain.specs.Memory.{WellFormed};

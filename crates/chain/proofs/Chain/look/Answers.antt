@@ -1,4 +1,4 @@
-use Rattle.std.proofs.Common.{◌≡◌, ◌<◌, sym, ◌∙◌, arith}
+use Rattle.std.proofs.Common.{◌<◌, sym, ◌∙◌, arith}
 use Rattle.chain.specs.Soundness.{untruncated}
 use Rattle.chain.proofs.Calls.{no_slot, look_empty, look_row}
 use Rattle.chain.proofs.Chain.look.Goals as goal
@@ -9,8 +9,8 @@ returns-then-not-has c =
     let l = t.layout in
     record { answer = no_slot l.slots l.longest l.cells c.args.slot _ (c.has.ensures.wrong c.if-not-has.true); inside = tt }
 
-pub row-length-n-requires : goal.row-length-n-requires
-row-length-n-requires c =
+pub row_length-n-requires : goal.row_length-n-requires
+row_length-n-requires c =
     let t = c.args.self.now in
     let l = t.layout in
     record { size = t.size; linked = (untruncated l.slots l.longest l.cells t.memory.bytes.now t.formed).linked; slot = c.has.ensures.right c.if-not-has.false }
@@ -19,15 +19,15 @@ pub returns-then-n-eq0 : goal.returns-then-n-eq0
 returns-then-n-eq0 c =
     let t = c.args.self.now in
     let l = t.layout in
-    record { answer = look_empty l.slots l.longest l.cells t.memory.bytes.now t.size c.args.slot (c.has.ensures.right c.if-not-has.false) (sym c.row-length-n.ensures.value ∙ c.if-n-eq0.true); inside = tt }
+    record { answer = look_empty l.slots l.longest l.cells t.memory.bytes.now t.size c.args.slot (c.has.ensures.right c.if-not-has.false) (sym c.row_length-n.ensures.value ∙ c.if-n-eq0.true); inside = tt }
 
 pub returns : goal.returns
 returns c =
     let t = c.args.self.now in
     let l = t.layout in
-    let e = c.row-length-n.ensures.value in
+    let e = c.row_length-n.ensures.value in
     let i : c.args.slot < l.slots = c.has.ensures.right c.if-not-has.false in
     record {
-      answer = look_row l.slots l.longest l.cells t.memory.bytes.now t.size c.args.slot i c.row-length-n.result e c.if-n-eq0.false;
+      answer = look_row l.slots l.longest l.cells t.memory.bytes.now t.size c.args.slot i c.row_length-n.result e c.if-n-eq0.false;
       inside = (i, omega (arith, c.if-n-eq0.false), sym e);
     }

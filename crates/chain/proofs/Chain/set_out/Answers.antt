@@ -1,4 +1,4 @@
-use Rattle.std.proofs.Common.{◌≡◌, ◌+◌, ◌*◌, false, length, sym, refl, ap, ◌∙◌, arith, rules}
+use Rattle.std.proofs.Common.{◌≡◌, ◌+◌, ◌*◌, false, length, sym, refl, ap, ◌∙◌}
 use Rattle.base.specs.Bytes.{zeros}
 use Rattle.base.proofs.Strings.{zeros_long}
 use Rattle.chain.specs.Memory.{wrong_dimensions}
@@ -11,7 +11,7 @@ returns c =
     let m = c.args.longest in
     let k = c.args.cells in
     let n = length c.args.memory.now in
-    let w : wrong_dimensions s m k n ≡ false = sym c.wrong-dimensions.ensures ∙ c.if-wrong-dimensions.false in
+    let w : wrong_dimensions s m k n ≡ false = sym c.wrong_dimensions.ensures ∙ c.if-wrong_dimensions.false in
     let d = right_dimensions s m k n w in
     let z : c.wipe.new.s ≡ zeros n = c.wipe.ensures in
     let e : c.wipe.new.s ≡ zeros (s + 32 * k) = z ∙ ap zeros d.2 in

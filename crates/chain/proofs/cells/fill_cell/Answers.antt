@@ -14,5 +14,5 @@ loop-i-preserved c = cell_more c.args.next c.args.piece.now c.loop-i.cell c.loop
 pub returns : goal.returns
 returns c = record {
   cell = cell_all c.args.next c.args.piece.now c.loop-i.cell c.loop-i.i (omega arith) c.loop-i.invariant;
-  bytes = λ j. omega (arith, c.type-inv.piece j);
+  bytes = λ j. omega (arith, c.type_inv.piece j);
 }

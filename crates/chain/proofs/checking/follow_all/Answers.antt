@@ -1,4 +1,4 @@
-use Rattle.std.proofs.Common.{◌≡◌, ◌<◌, ◌≤◌, length, get_or, sym, refl, ◌∙◌, subst, ⊎_elim, arith}
+use Rattle.std.proofs.Common.{◌<◌, ◌≤◌, length, get_or, refl, ⊎_elim, arith}
 use Rattle.chain.specs.Cells.{chain_from, row_in}
 use Rattle.std.proofs.lemmas.Bool.{true≢false, false≢true}
 use Rattle.chain.proofs.Following.{all_start, all_step, all_once, all_seen, all_few, right_row, right_long}
@@ -46,7 +46,7 @@ loop-i-preserved c =
       | else-n-gt0-via-else-n-gt0 w ↦ absurd (omega (arith, w.if-n-gt0.false))
     ] in
     all_step l.slots l.longest l.cells cs hs c.loop-i.seen c.loop-i.i c.loop-i.invariant (omega arith) c.follow.new.seen
-    (s.chain.0, right_row l.slots l.longest l.cells cs ks (λ j. omega (arith, c.type-inv.cells j)) long) (s.seen refl) s.few
+    (s.chain.0, right_row l.slots l.longest l.cells cs ks (λ j. omega (arith, c.type_inv.cells j)) long) (s.seen refl) s.few
 
 pub returns : goal.returns
 returns c =

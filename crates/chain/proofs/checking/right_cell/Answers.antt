@@ -1,4 +1,4 @@
-use Rattle.std.proofs.Common.{◌≡◌, ◌+◌, ◌-◌, ◌*◌, get_or, sym, refl, ap, ◌∙◌, ⊎_elim, arith}
+use Rattle.std.proofs.Common.{◌≡◌, ◌+◌, ◌-◌, ◌*◌, get_or, sym, refl, ◌∙◌, ⊎_elim, arith}
 use Rattle.std.proofs.lemmas.Bool.{false≢true}
 use Rattle.base.proofs.Zeros.{are_zeros, zeros_all}
 use Rattle.chain.specs.Cells.{next_of, used_of}
@@ -25,6 +25,6 @@ returns c =
     let u : n ≡ used_of b k = byte_there k 1 b (omega arith) in
     let f : (next_of b k ≡ 0 → ⊥) → used_of b k ≡ 30 = λ ne. ⊎_elim (λ h. sym u ∙ h.1) (λ h. absurd (ne (sym (next_there k b) ∙ h))) c.else-cells-at-ne0.either in
     record {
-      right = λ e. right_zero c.args.count b k n c.requires.size c.requires.first c.if-k-count.false u c.if-n-lt1.false c.if-n-gt30.false f _ refl (are_zeros _ (sym c.all-zero.ensures ∙ e));
-      wrong = λ e g. false≢true (sym e ∙ c.all-zero.ensures ∙ zeros_all _ (zero_right c.args.count b k n c.requires.size c.requires.first c.if-k-count.false u c.if-n-gt30.false _ refl g));
+      right = λ e. right_zero c.args.count b k n c.requires.size c.requires.first c.if-k-count.false u c.if-n-lt1.false c.if-n-gt30.false f _ refl (are_zeros _ (sym c.all_zero.ensures ∙ e));
+      wrong = λ e g. false≢true (sym e ∙ c.all_zero.ensures ∙ zeros_all _ (zero_right c.args.count b k n c.requires.size c.requires.first c.if-k-count.false u c.if-n-gt30.false _ refl g));
     }

@@ -1,4 +1,4 @@
-use Rattle.std.proofs.Common.{◌≡◌, ◌+◌, ◌<◌, ◌≤◌, length, sym, ◌∙◌, arith}
+use Rattle.std.proofs.Common.{◌≡◌, ◌+◌, ◌<◌, ◌≤◌, length, arith}
 use Rattle.chain.specs.Cells.{chain_units}
 use Rattle.chain.specs.Memory.{rows_in}
 use Rattle.chain.proofs.Has.{cost}

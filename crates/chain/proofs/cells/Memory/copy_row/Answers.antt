@@ -1,4 +1,4 @@
-use Rattle.std.proofs.Common.{◌≡◌, ℕ, ◌+◌, ◌<◌, ◌≤◌, List, [], ◌++◌, length, get_or, take, drop, sym, refl, ap, ◌∙◌, subst, arith, rules}
+use Rattle.std.proofs.Common.{◌≡◌, ◌+◌, ◌≤◌, [], ◌++◌, length, get_or, drop, sym, refl, ap, ◌∙◌, subst, arith, rules}
 use Rattle.std.proofs.lemmas.List.{take_all}
 use Rattle.chain.specs.Memory.{cells_in, rows_in}
 use Rattle.chain.proofs.Laid.{Lies}
@@ -20,8 +20,8 @@ copy-at-requires c =
     let t = turn l.cells (cells_in l.slots b) r c.args.buffer.now c.loop-k.k c.loop-k.at (omega arith) i.1 i.0.0 i.0.1 in
     record { size = c.requires.size; first = omega arith; last = t.inside; limit = omega (arith, t.used, t.high); room = omega (arith, t.used, t.end, c.requires.room, c.loop-k.auto.buffer) }
 
-pub overflow-add-at : goal.overflow-add-at
-overflow-add-at c =
+pub overflow_add-at : goal.overflow_add-at
+overflow_add-at c =
     let l = c.args.layout in
     let b = c.args.self.now.bytes.now in
     let r = get_or (rows_in l.slots l.cells b) c.args.slot [] in

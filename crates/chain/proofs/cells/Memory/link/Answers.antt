@@ -7,6 +7,6 @@ returns c =
     let b = c.args.self.now.bytes.now in
     record {
       heads = heads_kept l.slots l.cells c.args.k b c.requires.size c.requires.first c.requires.last _;
-      cells = cell_put l.slots l.cells c.args.k b c.requires.size c.requires.first c.requires.last _ _ c.fill-cell.ensures.cell;
-      bytes = c.fill-cell.ensures.bytes;
+      cells = cell_put l.slots l.cells c.args.k b c.requires.size c.requires.first c.requires.last _ _ c.fill_cell.ensures.cell;
+      bytes = c.fill_cell.ensures.bytes;
     }

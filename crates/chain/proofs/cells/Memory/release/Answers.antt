@@ -1,4 +1,4 @@
-use Rattle.std.proofs.Common.{◌≤◌, get_or, set, sym, refl, ap, ◌∙◌, arith}
+use Rattle.std.proofs.Common.{◌≤◌, set, refl, ◌∙◌, arith}
 use Rattle.std.proofs.lemmas.List.{get_or-set_same, get_or-take}
 use Rattle.chain.proofs.Releasing.{release_start, release_inside, release-step, release-less, release-end}
 use Rattle.chain.proofs.cells.Memory.release.Goals as goal

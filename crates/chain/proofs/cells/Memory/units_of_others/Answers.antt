@@ -16,8 +16,8 @@ loop-i-preserved c =
     let lt : i < length rows = omega (arith, rows_many l.slots l.cells b c.requires.size) in
     elim c.if-i-slot.branch [
       | then-i-slot w ↦
-          (let u : w.units-sum.result ≡ chain_units (length (get_or rows i [])) = w.units-sum.ensures ∙ ap chain_units w.row-length.ensures.value in
-          let few : w.units-sum.result ≤ 255 = omega (arith, w.units-sum.ensures, w.row-length.ensures.short, l.count.1) in
+          (let u : w.units-sum.result ≡ chain_units (length (get_or rows i [])) = w.units-sum.ensures ∙ ap chain_units w.row_length.ensures.value in
+          let few : w.units-sum.result ≤ 255 = omega (arith, w.units-sum.ensures, w.row_length.ensures.short, l.count.1) in
           (w.sum-is ∙ sum_other rows c.args.slot i c.loop-i.sum w.units-sum.result lt inv.0 w.if-i-slot.true u, omega (arith, w.sum-is, inv.1)))
       | else-i-slot w ↦ (w.sum-is ∙ sum_own rows c.args.slot i c.loop-i.sum lt inv.0 w.if-i-slot.false, omega (arith, w.sum-is, inv.1))
     ]

@@ -1,4 +1,4 @@
-use Rattle.std.proofs.Common.{◌≡◌, [], sym, refl, ap, ◌∙◌, arith}
+use Rattle.std.proofs.Common.{[], refl, ◌∙◌, arith}
 use Rattle.std.proofs.lemmas.Bool.{true≢false}
 use Rattle.chain.specs.Soundness.{untruncated}
 use Rattle.chain.proofs.Calls.{clear_row}
@@ -12,16 +12,16 @@ pub release-requires : goal.release-requires
 release-requires c =
     let t = c.args.self.now in
     let l = t.layout in
-    record { size = t.size; linked = (untruncated l.slots l.longest l.cells t.memory.bytes.now t.formed).linked; slot = c.in-ok-look.ensures.inside.0 }
+    record { size = t.size; linked = (untruncated l.slots l.longest l.cells t.memory.bytes.now t.formed).linked; slot = c.in_ok-look.ensures.inside.0 }
 
-pub invariant-of-self : goal.invariant-of-self
-invariant-of-self c =
+pub invariant_of-self : goal.invariant_of-self
+invariant_of-self c =
     let t = c.args.self.now in
     let l = t.layout in
     let b = t.memory.bytes.now in
     let a = c.release.ensures.put in
     let f = untruncated l.slots l.longest l.cells b t.formed in
-    (a.size ∙ t.size, (∣ formed_after l.slots l.longest l.cells c.args.slot [] b c.release.new.self.bytes.now t.size c.in-ok-look.ensures.inside.0 f a tt ∣₁, tt))
+    record { size = a.size ∙ t.size; formed = ∣ formed_after l.slots l.longest l.cells c.args.slot [] b c.release.new.self.bytes.now t.size c.in_ok-look.ensures.inside.0 f a tt ∣₁ }
 
 pub returns : goal.returns
 returns c =
@@ -30,7 +30,7 @@ returns c =
     let b = t.memory.bytes.now in
     let a = c.release.ensures.put in
     let f = untruncated l.slots l.longest l.cells b t.formed in
-    let i = c.in-ok-look.ensures.inside in
+    let i = c.in_ok-look.ensures.inside in
     record {
       fixed = refl;
       shape = refl;

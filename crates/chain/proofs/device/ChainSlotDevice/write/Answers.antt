@@ -1,4 +1,4 @@
-use Rattle.std.proofs.Common.{◌≡◌, [], length, set, sym, refl, ap, ◌∙◌, arith, rules}
+use Rattle.std.proofs.Common.{◌≡◌, length, set, refl, ap, ◌∙◌, arith}
 use Rattle.std.proofs.lemmas.Bool.{true≢false}
 use Rattle.base.specs.Bytes.{zeros}
 use Rattle.chain.specs.Memory.{cells_in, heads_in, chain_held}
@@ -13,19 +13,19 @@ pub replace-requires : goal.replace-requires
 replace-requires c =
     let t = c.args.self.now in
     let l = t.layout in
-    let i = c.in-ok-admit.ensures.inside in
+    let i = c.in_ok-admit.ensures.inside in
     record { size = t.size; linked = (untruncated l.slots l.longest l.cells t.memory.bytes.now t.formed).linked; slot = i.0; room = i.3 }
 
-pub invariant-of-self : goal.invariant-of-self
-invariant-of-self c =
+pub invariant_of-self : goal.invariant_of-self
+invariant_of-self c =
     let t = c.args.self.now in
     let l = t.layout in
     let b = t.memory.bytes.now in
     let r = c.args.row.now in
     let a = c.replace.ensures.put in
     let f = untruncated l.slots l.longest l.cells b t.formed in
-    let i = c.in-ok-admit.ensures.inside in
-    (a.size ∙ t.size, (∣ formed_after l.slots l.longest l.cells c.args.slot r b c.replace.new.self.bytes.now t.size i.0 f a (row_fits l.slots l.longest l.cells r i.1 i.2 c.replace.ensures.bytes) ∣₁, tt))
+    let i = c.in_ok-admit.ensures.inside in
+    record { size = a.size ∙ t.size; formed = ∣ formed_after l.slots l.longest l.cells c.args.slot r b c.replace.new.self.bytes.now t.size i.0 f a (row_fits l.slots l.longest l.cells r i.1 i.2 c.replace.ensures.bytes) ∣₁ }
 
 pub returns : goal.returns
 returns c =
@@ -35,7 +35,7 @@ returns c =
     let r = c.args.row.now in
     let a = c.replace.ensures.put in
     let f = untruncated l.slots l.longest l.cells b t.formed in
-    let i = c.in-ok-admit.ensures.inside in
+    let i = c.in_ok-admit.ensures.inside in
     let w : c.wipe.new.s ≡ zeros (length r) = c.wipe.ensures in
     record {
       fixed = refl;
