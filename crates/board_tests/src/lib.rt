@@ -1,3 +1,4 @@
+#![tactic(auto)]
 // Examples of boards at work, kept apart so that the boards themselves are proved only once.
 
 // How many bytes a key bundle has for ciphers with keys of sixteen bytes.

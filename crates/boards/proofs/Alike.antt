@@ -5,7 +5,7 @@ use Rattle.base.proofs.Strings.{take_bytes, drop_bytes}
 use Rattle.ciphers.specs.Keys.{Key}
 use Rattle.ciphers.specs.declared.cipher.BlockCipher.{Ghosts as Cipher}
 use Rattle.mode.specs.Bundles.{prf_key, blk_key, sealed_under}
-use Rattle.boards.specs.Contexts.{Context, context_of}
+use Rattle.boards.specs.Contexts.{context_of}
 use Rattle.boards.specs.Kinds.{StringOf, Admitted}
 use Rattle.boards.specs.Modes.{sealed_row, mode_kind, TurnAlike}
 use Rattle.boards.specs.Promise.{SealAlike}

@@ -1,5 +1,5 @@
 -- What one call on a device gives, in the words of the plain board.
-use Rattle.std.proofs.Common.{◌≡◌, ℕ, false, List, [], ◌∷◌, ◌++◌, length, take, drop, is_ok, Ok, Err, Option, Result, sym, refl, ap, ◌∙◌, subst, arith}
+use Rattle.std.proofs.Common.{◌≡◌, ℕ, false, List, ◌++◌, length, take, drop, is_ok, Ok, Err, Option, Result, sym, refl, ap, ◌∙◌, subst}
 use Rattle.std.proofs.lemmas.List.{take_at}
 use Rattle.base.specs.declared.refusals.Refusal.{Refusal}
 use Rattle.devices.specs.Slots.{Slot, Shape}
@@ -8,7 +8,7 @@ use Rattle.devices.specs.Finding.{FindAnswer, work_after_find}
 use Rattle.boards.specs.declared.calls.Call.{Call}
 use Rattle.boards.specs.declared.calls.Reply.{Reply}
 use Rattle.boards.specs.declared.calls.Reply.TheVariants.{Accepted}
-use Rattle.boards.specs.Plain.{Asked, asked, writing, clearing, replied, replied_found, Unchanging, MayOpen}
+use Rattle.boards.specs.Plain.{asked, writing, clearing, replied, replied_found, Unchanging, MayOpen}
 
 module _ (s : Shape) (h : List Slot) (n : ℕ) (items given left : List ℕ) (len : ℕ) (r : Answer) (a : Reply) (g : given ≡ items) (l : length given ≡ len) (same : length left ≡ length given) where
   back : take len (left ++ drop (length left) items) ≡ left

@@ -1,12 +1,12 @@
 -- Labels padded with zeros, and what a slot's nonce is made of.
-use Rattle.std.proofs.Common.{◌≡◌, ℕ, zero, suc, ◌+◌, ◌-◌, ◌/◌, ◌%◌, ◌<◌, ◌≤◌, ◌⊎◌, List, [], ◌∷◌, ◌++◌, length, get_or, take, drop, replicate, sym, refl, ap, ◌∙◌, subst, inl, inr, ⊎_elim, arith, length-append}
-use Rattle.std.proofs.lemmas.List.{append-nil, length-replicate, get_or_append_left, get_or_past, get_or-append_right, drop-replicate, get_or-replicate}
+use Rattle.std.proofs.Common.{◌≡◌, ℕ, zero, suc, ◌+◌, ◌-◌, ◌/◌, ◌%◌, ◌≤◌, List, [], ◌∷◌, ◌++◌, length, get_or, drop, sym, refl, ap, ◌∙◌, subst, ⊎_elim, arith, length-append}
+use Rattle.std.proofs.lemmas.List.{append-nil, length-replicate, get_or_append_left, get_or_past, get_or-append_right, drop-replicate}
 use Rattle.std.proofs.lemmas.Bool.{cases_lt}
 use Rattle.base.specs.Bytes.{AllBytes, zeros}
 use Rattle.base.specs.Numbers.{bytes}
 use Rattle.base.proofs.Digits.{to_le_32}
 use borrow.Rule.Slice.PartMut.{put_mid}
-use Rattle.boards.specs.Contexts.{Context, label_limit, padded_label, context_of}
+use Rattle.boards.specs.Contexts.{label_limit, padded_label, context_of}
 
 pub padded_long : (label : List ℕ) → length label ≤ label_limit → length (padded_label label) ≡ 12
 unfolding padded_label

@@ -1,13 +1,12 @@
 -- The answers of a board are those of its device: its rows are as long as what is held.
-use Rattle.std.proofs.Common.{◌≡◌, ℕ, zero, suc, ◌+◌, ◌-◌, ◌<◌, ◌≤◌, Bool, true, false, cond, ltb, leb, List, [], ◌∷◌, ◌++◌, length, get_or, take, drop, set, Ok, Err, fold, sum_by, sym, refl, ap, ◌∙◌, subst, arith}
+use Rattle.std.proofs.Common.{◌≡◌, ℕ, suc, ◌+◌, ◌<◌, ◌≤◌, false, List, [], ◌∷◌, ◌++◌, length, get_or, take, drop, set, Ok, Err, fold, sym, refl, ap, ◌∙◌, arith}
 use Rattle.std.proofs.lemmas.List.{take_at, drop_at}
-use Rattle.base.specs.declared.refusals.Refusal.{Refusal}
-use Rattle.base.specs.Bytes.{AllBytes, zeros}
+use Rattle.base.specs.Bytes.{AllBytes}
 use Rattle.devices.specs.Slots.{Slot, nothing, row, Shape, units_in, units_held, units_of_others, RowFits, Sound}
-use Rattle.devices.specs.Answers.{Answer, is_nothing, bytes_in, bytes_at, write_answer, held_after_write, row_after_write, read_answer, buffer_after_read, clear_answer, held_after_clear, length_answer}
+use Rattle.devices.specs.Answers.{Answer, is_nothing, bytes_in, bytes_at, write_answer, held_after_write, read_answer, clear_answer, held_after_clear, length_answer}
 use Rattle.boards.specs.Through.{on_row, through_from, through, as_long_as, keeping_length}
-use Rattle.boards.specs.Soundness.{length_through, get_or_through, as_long}
-use Rattle.boards.proofs.Rows.{set_through, as_is, held_row}
+use Rattle.boards.specs.Soundness.{get_or_through, as_long}
+use Rattle.boards.proofs.Rows.{set_through, as_is}
 
 module _ (f : ℕ → List ℕ → List ℕ) where
   units_from : (s : Shape) (n a : ℕ) (xs : List Slot) → fold (λ b x. b + units_in s x) a (through_from (keeping_length f) n xs) ≡ fold (λ b x. b + units_in s x) a xs

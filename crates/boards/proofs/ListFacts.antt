@@ -1,6 +1,6 @@
 -- One more call of a list.
 use Rattle.std.proofs.Common.{◌≡◌, ℕ, ◌+◌, ◌<◌, ◌≤◌, List, [], ◌∷◌, ◌++◌, length, get_or, take, drop, set, sym, refl, ap, ◌∙◌, subst, add-zero, arith}
-use Rattle.std.specs.List.{AllByRecursion as All}
+use Rattle.std.specs.List.{AllByRecursion}
 use Rattle.std.proofs.lemmas.List.{take_more, take_more_set, drop-set-lt, drop-drop, get_or-drop, take_all}
 use Rattle.devices.specs.Slots.{Shape}
 use Rattle.boards.specs.declared.calls.Entry.{Entry}
@@ -20,7 +20,7 @@ module _ (k : Kind) (s : Shape) where
 
 -- no call of the list was an accepted write or an accepted clear
 abbrev pub Quiet : List Entry → Type 0
-Quiet done = All (λ e. Unchanging e.reply (asked e.call)) done
+Quiet done = AllByRecursion (λ e. Unchanging e.reply (asked e.call)) done
 
 quiet_last : (es : List Entry) (e : Entry) → Quiet (es ++ e ∷ []) → Quiet es × Unchanging e.reply (asked e.call)
 quiet_last [] e h = (tt, h.0)

@@ -1,5 +1,5 @@
 -- The facts of the mode as a kind of sealing, from the laws of the cipher.
-use Rattle.std.proofs.Common.{◌≡◌, ℕ, zero, suc, ◌+◌, ◌*◌, ◌<◌, ◌≤◌, Bool, true, false, cond, eqb, ltb, List, [], ◌∷◌, ◌++◌, length, get_or, Ok, Err, sym, refl, ap, ◌∙◌, subst, arith, length-append}
+use Rattle.std.proofs.Common.{◌≡◌, ℕ, ◌+◌, ◌*◌, ◌≤◌, List, ◌++◌, length, Ok, ◌∙◌, arith, length-append}
 use Rattle.base.specs.Bytes.{AllBytes, Block}
 use Rattle.base.specs.Blocks.{Message}
 use Rattle.base.specs.Numbers.{bytes}
@@ -8,12 +8,10 @@ use Rattle.base.proofs.Strings.{append_bytes}
 use Rattle.ciphers.specs.Keys.{Key}
 use Rattle.ciphers.specs.declared.cipher.BlockCipher.{Ghosts as Cipher}
 use Rattle.mode.specs.Laws.{Inverse, FormLaws, ModeLaws}
-use Rattle.mode.specs.Keys.{bundle_of}
 use Rattle.mode.specs.Bundles.{sealed_under, opened_under}
 use Rattle.boards.specs.declared.ready.Ready.{Ready}
-use Rattle.boards.specs.declared.label.Label.{Label}
-use Rattle.boards.specs.Contexts.{Context, label_limit, padded_label, context_of}
-use Rattle.boards.specs.Kinds.{StringOf, Kind, RowOf, SealedOf, Admitted, OpensSealed, SealsOpened, Lawful}
+use Rattle.boards.specs.Contexts.{label_limit, padded_label, context_of}
+use Rattle.boards.specs.Kinds.{StringOf, Admitted, OpensSealed, SealsOpened, Lawful}
 use Rattle.boards.specs.Modes.{opening_answer, sealed_row, opened_row, mode_kind}
 use Rattle.boards.specs.Readiness.{bundle_in}
 use Rattle.boards.proofs.Labels.{padded_bytes}

@@ -1,5 +1,5 @@
 -- The mode's calls on a row of a slot.
-use Rattle.std.proofs.Common.{◌≡◌, ℕ, ◌+◌, ◌<◌, ◌≤◌, List, [], ◌∷◌, ◌++◌, length, IfOk, Ok, Err, sym, refl, ap, ◌∙◌, subst, arith, length-append}
+use Rattle.std.proofs.Common.{◌≡◌, ℕ, ◌≤◌, List, [], length, IfOk, Ok, sym, ap, ◌∙◌, subst, arith, length-append}
 use Rattle.base.specs.Refusals.{decided}
 use Rattle.base.specs.Numbers.{bytes}
 use Rattle.base.proofs.Digits.{bytes_long}

@@ -1,10 +1,10 @@
 -- What slots hold, through a function and back.
-use Rattle.std.proofs.Common.{◌≡◌, ℕ, zero, suc, ◌+◌, ◌%◌, ◌<◌, ◌≤◌, List, [], ◌∷◌, ◌++◌, length, get_or, set, sym, refl, ap, ◌∙◌, subst, arith}
+use Rattle.std.proofs.Common.{◌≡◌, ℕ, zero, suc, ◌+◌, ◌%◌, ◌<◌, ◌≤◌, List, [], ◌∷◌, length, get_or, set, sym, refl, ap, ◌∙◌, subst, arith}
 use Rattle.std.proofs.lemmas.List.{ext_get_or}
 use Rattle.base.specs.Bytes.{AllBytes}
 use Rattle.devices.specs.Slots.{Slot, nothing, row, Shape, RowFits, Sound}
-use Rattle.boards.specs.Through.{on_row, through_from, through, as_long_as, keeping_length}
-use Rattle.boards.specs.Soundness.{length_from, length_through, get_or_through}
+use Rattle.boards.specs.Through.{on_row, through_from, through, as_long_as}
+use Rattle.boards.specs.Soundness.{length_through, get_or_through}
 
 -- a function keeps lengths and gives bytes: nothing is cut
 pub as_is : (r xs : List ℕ) → length xs ≡ length r → AllBytes xs → as_long_as r xs ≡ xs

@@ -1,5 +1,5 @@
 -- One call on a screen, seen from the plain board.
-use Rattle.std.proofs.Common.{◌≡◌, ℕ, zero, suc, ◌+◌, ◌<◌, ◌≤◌, Bool, true, false, cond, ◌&&◌, eqb, List, [], ◌∷◌, ◌++◌, length, get_or, is_ok, Some, None, Ok, Err, vec_items, MatchBool, Option, Vec, sym, refl, ap, ◌∙◌, subst, arith}
+use Rattle.std.proofs.Common.{◌≡◌, ℕ, ◌<◌, Bool, true, false, cond, ◌&&◌, eqb, List, [], ◌∷◌, length, get_or, is_ok, Some, None, vec_items, Option, Vec, sym, refl, ap, ◌∙◌, subst, arith}
 use Rattle.base.specs.Bytes.{AllBytes}
 use Rattle.ciphers.specs.declared.cipher.BlockCipher.{Ghosts as Cipher}
 use Rattle.mode.specs.Bundles.{opened_under}
@@ -15,14 +15,14 @@ use Rattle.boards.specs.declared.calls.Call.TheVariants.{Open, Write, Read, Clea
 use Rattle.boards.specs.declared.calls.Reply.{Reply}
 use Rattle.boards.specs.declared.calls.Reply.TheVariants.{Accepted}
 use Rattle.std.specs.declared.alloc.Global.{Global}
-use Rattle.boards.specs.Through.{on_row, through, as_long_as, keeping_length}
-use Rattle.boards.specs.Soundness.{sound_through, length_through}
-use Rattle.boards.specs.Contexts.{Context, label_limit, padded_label, context_of}
-use Rattle.boards.specs.Kinds.{Kind, StringOf, RowOf, Admitted, OpensSealed, SealsOpened}
-use Rattle.boards.specs.Modes.{opening_answer, sealed_row, opened_row, mode_kind}
-use Rattle.boards.specs.Readiness.{bundle_in, ReadyWith, opened_by, board_rows}
-use Rattle.boards.specs.Plain.{Plain, replied, buffer_of, seal_under, same_bytes, is_under, rows_opened, rows_after, stays_open, after_open, after_shut, next, MayOpen, May}
-use Rattle.boards.specs.Screens.{behind, shows_open, OpenUnder, Stands, ReadyUnder, Shown}
+use Rattle.boards.specs.Through.{through, as_long_as, keeping_length}
+use Rattle.boards.specs.Soundness.{sound_through}
+use Rattle.boards.specs.Contexts.{Context, context_of}
+use Rattle.boards.specs.Kinds.{StringOf, Admitted, OpensSealed, SealsOpened}
+use Rattle.boards.specs.Modes.{sealed_row, opened_row, mode_kind}
+use Rattle.boards.specs.Readiness.{ReadyWith, opened_by, board_rows}
+use Rattle.boards.specs.Plain.{Plain, replied, seal_under, same_bytes, is_under, rows_opened, rows_after, stays_open, next, MayOpen, May}
+use Rattle.boards.specs.Screens.{behind, shows_open, OpenUnder, Stands, Shown}
 use Rattle.boards.proofs.Labels.{context_padded, unpadded_bytes}
 use Rattle.boards.proofs.Rows.{as_is, through_alike, through_back, held_row}
 use Rattle.boards.proofs.ModeFacts.{CipherFacts, opening_ok, opens_sealed, seals_opened, bundle_bytes, ready_opens}

@@ -1,9 +1,9 @@
 -- From a run on each of two screens to what holds of both, for any two kinds of sealing.
-use Rattle.std.proofs.Common.{◌≡◌, ℕ, ◌+◌, ◌<◌, ◌≤◌, Bool, true, false, cond, ◌⊎◌, List, [], ◌∷◌, length, get_or, is_ok, Some, None, Ok, Err, vec_items, MatchBool, Option, sym, refl, ap, ◌∙◌, subst, inl, inr, ⊎_elim, arith}
+use Rattle.std.proofs.Common.{◌≡◌, ℕ, ◌+◌, ◌≤◌, Bool, true, false, cond, ◌⊎◌, List, [], ◌∷◌, length, get_or, is_ok, Some, None, Ok, Err, vec_items, MatchBool, Option, sym, refl, ap, ◌∙◌, subst, inl, inr, ⊎_elim, arith}
 use Rattle.std.proofs.lemmas.List.{get_or_past}
 use Rattle.std.proofs.lemmas.Bool.{cases_lt}
 use Rattle.base.specs.Bytes.{AllBytes}
-use Rattle.devices.specs.Slots.{Slot, nothing, row, Shape, Sound}
+use Rattle.devices.specs.Slots.{Slot, nothing, row, Shape}
 use Rattle.devices.specs.Answers.{Answer}
 use Rattle.ciphers.specs.declared.cipher.BlockCipher.{Ghosts as Cipher}
 use Rattle.devices.specs.declared.device.SlotDevice.{Ghosts as Device}
@@ -15,8 +15,8 @@ use Rattle.boards.specs.declared.calls.Entry.{Entry}
 use Rattle.boards.specs.declared.runs.Screen.{Screen}
 use Rattle.boards.specs.Through.{on_row}
 use Rattle.boards.specs.Kinds.{StringOf, Kind, RowOf, SealedOf, Admitted, OpensSealed, SealsOpened, Lawful}
-use Rattle.boards.specs.Plain.{Asked, asked, replied, Plain, seal_under, rows_opened, next, after, unopened, May, MayOpen, MayShut, Answered, buffer_of}
-use Rattle.boards.specs.Screens.{behind, AcceptedOrUnopened}
+use Rattle.boards.specs.Plain.{asked, replied, Plain, seal_under, rows_opened, next, after, unopened, May, MayOpen, MayShut, Answered, buffer_of}
+use Rattle.boards.specs.Screens.{AcceptedOrUnopened}
 use Rattle.boards.specs.Promise.{held_at, plain_after, plain_row, Ran, Empty, OpeningUsed, OpeningsUsed, SealAlike, SealedOnce, Shared, Agreement}
 use Rattle.boards.proofs.Rows.{on_alike, held_row}
 

@@ -1,6 +1,6 @@
 -- What a list of calls on one screen shows, and what two lists on two screens show.
 use Rattle.std.specs.Prelude.{◌≡◌, ℕ, ◌+◌, List, length, slice_index_or}
-use Rattle.std.specs.List.{AllByRecursion as All}
+use Rattle.std.specs.List.{AllByRecursion}
 use Rattle.base.specs.Bytes.{AllBytes}
 use Rattle.devices.specs.Slots.{Slot, nothing, Sound}
 use Rattle.ciphers.specs.declared.cipher.BlockCipher.{Ghosts as Cipher}
@@ -35,7 +35,7 @@ pub record Ran {C D : Type 0} (c : Cipher C) (k : Kind) (d : Device D) (device :
   pub slots_hold_the_plain_rows_sealed : (n : ℕ) → held_at d end n ≡ on_row (seal_under k (plain_after k d device calls).under n) (plain_row k d device calls n)
   pub plain_rows_are_within_the_limits : Sound (k.shape_over (d.shape device)) (plain_after k d device calls).rows
   pub an_open_board_has_the_keys_and_label_accepted_last : OpenUnder c end (plain_after k d device calls).under
-  pub state_is_kept_where_no_write_or_clear_was_accepted : All (λ e. Unchanging e.reply (asked e.call)) done → d.state (behind end) ≡ d.state device
+  pub state_is_kept_where_no_write_or_clear_was_accepted : AllByRecursion (λ e. Unchanging e.reply (asked e.call)) done → d.state (behind end) ≡ d.state device
   pub bundle_and_label_were_accepted : AcceptedOrUnopened k (d.held device) (plain_after k d device calls).rows (plain_after k d device calls).under
 
 -- ---- two screens
@@ -57,7 +57,7 @@ OpeningUsed bundle label reply shutting = Unit {0}
 
 -- every accepted opening of a list that was run used this bundle and label
 abbrev pub OpeningsUsed : List ℕ → List ℕ → List Entry → Type 0
-OpeningsUsed bundle label done = All (λ e. OpeningUsed bundle label e.reply (asked e.call)) done
+OpeningsUsed bundle label done = AllByRecursion (λ e. OpeningUsed bundle label e.reply (asked e.call)) done
 
 -- two kinds of sealing seal every row alike under this bundle and label, where they are accepted
 pub record SealAlike (k l : Kind) (bundle label : List ℕ) : Type 0 where

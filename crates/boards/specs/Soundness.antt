@@ -1,5 +1,5 @@
 -- A board keeps the limits of its device.
-use Rattle.std.specs.Prelude.{◌≡◌, ℕ, zero, suc, ◌+◌, ◌%◌, ◌<◌, ◌≤◌, List, [], ◌∷◌, length, slice_index_or, refl}
+use Rattle.std.specs.Prelude.{◌≡◌, ℕ, zero, suc, ◌+◌, List, [], ◌∷◌, length, slice_index_or, refl}
 use Rattle.std.proofs.Common.{sym, ap, ◌∙◌, subst, arith}
 use Rattle.base.specs.Bytes.{AllBytes}
 use Rattle.devices.specs.Slots.{Slot, nothing, row, Shape, RowFits, Sound}

@@ -1,3 +1,4 @@
+#![tactic(auto)]
 // Boards over any slot device, and lists of calls on screens.
 mod acts;
 pub mod board;

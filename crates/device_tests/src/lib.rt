@@ -1,3 +1,4 @@
+#![tactic(auto)]
 // Examples of devices at work, kept apart so that the devices themselves are proved only once.
 
 // How many bytes a row in these examples has.

@@ -1,9 +1,5 @@
 -- The worked examples, computed by doubling.
-use mathlib.Core.Path.{◌≡◌, refl, ap, ◌∙◌}
-use mathlib.Core.List.{[], ◌∷◌, ◌++◌, reverse}
-use Prim.Native.Nat.{ℕ, zero, suc, ◌+◌}
-use native.Mathlib.Omega.{arith}
-use lib.Bits.{bit_xor}
+use Rattle.std.proofs.Common.{◌≡◌, ℕ, zero, suc, [], ◌∷◌, ◌++◌, reverse, bit_xor, refl, ap, ◌∙◌, arith}
 use Rattle.base.specs.Bytes.{zeros}
 use Rattle.base.specs.Numbers.{number, bytes}
 use Rattle.base.specs.Polynomials.{power}

@@ -1,3 +1,4 @@
+#![tactic(auto)]
 // Worked examples of the definitions: the field, CMAC, the mode, a board's nonce, and a chain's units and room.
 ghost use Rattle.std.specs.Prelude.{◌≡◌};
 ghost use Rattle.worked.specs.Worked.{WorkedExamples};

@@ -11,8 +11,8 @@ returns g c =
     let E = g.E.BlockCipher in
     let M = g.met.C.BlockCipher in
     let N = g.met.E.BlockCipher in
-    let L : CipherFacts C = record { mode = c.mode-laws.ensures.laws; keyed = M.keyed; undone = M.undone; redone = M.redone; ahead = M.ahead; behind = M.behind } in
-    let L' : CipherFacts E = record { mode = c.mode-laws.ensures.laws; keyed = N.keyed; undone = N.undone; redone = N.redone; ahead = N.ahead; behind = N.behind } in
+    let L : CipherFacts C = record { mode = c.mode_laws.ensures.laws; keyed = M.keyed; undone = M.undone; redone = M.redone; ahead = M.ahead; behind = M.behind } in
+    let L' : CipherFacts E = record { mode = c.mode_laws.ensures.laws; keyed = N.keyed; undone = N.undone; redone = N.redone; ahead = N.ahead; behind = N.behind } in
     record {
       first = c.run-a.ensures;
       second = c.run-b.ensures;

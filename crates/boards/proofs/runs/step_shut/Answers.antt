@@ -1,4 +1,4 @@
-use Rattle.std.proofs.Common.{◌≡◌, [], vec_items, sym, ap, subst}
+use Rattle.std.proofs.Common.{[], vec_items, sym, ap, subst}
 use Rattle.boards.specs.declared.calls.Call.{Call}
 use Rattle.boards.specs.declared.calls.Reply.TheVariants.{Accepted}
 use Rattle.boards.specs.declared.ready.Ready.{Ready}
@@ -16,10 +16,10 @@ returns-in-Ok g c =
     let C = g.C.BlockCipher in
     let D = g.D.SlotDevice in
     let M = g.met.C.BlockCipher in
-    let L : CipherFacts C = record { mode = c.mode-laws.ensures.laws; keyed = M.keyed; undone = M.undone; redone = M.redone; ahead = M.ahead; behind = M.behind } in
+    let L : CipherFacts C = record { mode = c.mode_laws.ensures.laws; keyed = M.keyed; undone = M.undone; redone = M.redone; ahead = M.ahead; behind = M.behind } in
     let bundle = c.in-Open.bundle in
     let label = c.in-Open.label in
-    let h = prepared_at C c.in-Ok.ready _ (vec_items bundle) _ (vec_items label) c.as-slice.ensures.value c.as-slice-in-Open.ensures.value c.in-Ok.ensures in
+    let h = prepared_at C c.in-Ok.ready _ (vec_items bundle) _ (vec_items label) c.as_slice.ensures.value c.as_slice-in-Open.ensures.value c.in-Ok.ensures in
     let w : ReadyWith C c.open.result.ready (vec_items bundle) (vec_items label) = subst (λ (x : Ready g.row.C.Denot). ReadyWith C x (vec_items bundle) (vec_items label)) (sym c.open.ensures.made.0) h.1 in
     record {
       asked = ap asked (sym c.in-Open.is);

@@ -6,7 +6,7 @@ use Rattle.boards.proofs.board.Board.open.Goals as goal
 pub returns : goal.returns
 returns g c =
     let M = g.met.C.BlockCipher in
-    let L : CipherFacts g.C.BlockCipher = record { mode = c.mode-laws.ensures.laws; keyed = M.keyed; undone = M.undone; redone = M.redone; ahead = M.ahead; behind = M.behind } in
+    let L : CipherFacts g.C.BlockCipher = record { mode = c.mode_laws.ensures.laws; keyed = M.keyed; undone = M.undone; redone = M.redone; ahead = M.ahead; behind = M.behind } in
     let x = c.args.device in
     record {
       made = (refl, refl);

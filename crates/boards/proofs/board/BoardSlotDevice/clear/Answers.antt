@@ -1,5 +1,4 @@
-use Rattle.std.proofs.Common.{◌≡◌, List, sym, refl, ap, ◌∙◌}
-use Rattle.devices.specs.Slots.{Slot}
+use Rattle.std.proofs.Common.{sym, ap, ◌∙◌}
 use Rattle.boards.specs.Readiness.{opened_by, board_rows}
 use Rattle.boards.proofs.Layers.{clear_through, cleared_through}
 use Rattle.boards.proofs.board.BoardSlotDevice.clear.Goals as goal

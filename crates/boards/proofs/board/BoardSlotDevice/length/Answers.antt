@@ -1,4 +1,4 @@
-use Rattle.std.proofs.Common.{◌≡◌, sym, refl, ap, ◌∙◌}
+use Rattle.std.proofs.Common.{sym, ap, ◌∙◌}
 use Rattle.boards.specs.Readiness.{opened_by, board_rows}
 use Rattle.boards.proofs.Layers.{length_answer_through}
 use Rattle.boards.proofs.board.BoardSlotDevice.length.Goals as goal

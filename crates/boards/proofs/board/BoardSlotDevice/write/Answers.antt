@@ -1,21 +1,20 @@
-use Rattle.std.proofs.Common.{◌≡◌, ℕ, Bool, true, false, List, length, is_ok, Ok, Err, sym, refl, ap, ◌∙◌, subst, arith}
+use Rattle.std.proofs.Common.{◌≡◌, ℕ, true, false, length, is_ok, Ok, Err, sym, ap, ◌∙◌, arith}
 use Rattle.std.proofs.lemmas.Result.{err_from_is_err_and}
 use Rattle.base.specs.Bytes.{zeros}
-use Rattle.devices.specs.Slots.{Slot}
 use Rattle.devices.specs.Answers.{Answer, held_after_write, row_after_write}
-use Rattle.boards.specs.Readiness.{sealed_by, opened_by, board_rows}
+use Rattle.boards.specs.Readiness.{opened_by, board_rows}
 use Rattle.boards.proofs.Layers.{write_through, written_through}
 use Rattle.boards.proofs.board.BoardSlotDevice.write.Goals as goal
 
-pub returns-in-err-fits : goal.returns-in-err-fits
-returns-in-err-fits g c =
+pub returns-in_err-fits : goal.returns-in_err-fits
+returns-in_err-fits g c =
     let it = c.args.self.now in
     let f = opened_by g.C.BlockCipher it.ready in
     let s = g.D.SlotDevice.shape it.device in
     let h = g.D.SlotDevice.held it.device in
-    let was = c.in-err-fits.was in
-    let why = c.in-err-fits.field-0.0 in
-    let is : c.from-residual.result ≡ Err why = let p = err_from_is_err_and c.from-residual.result c.from-residual.ensures.1 in cc (p.1, p.2) in
+    let was = c.in_err-fits.was in
+    let why = c.in_err-fits.field-0.0 in
+    let is : c.from_residual.result ≡ Err why = let p = err_from_is_err_and c.from_residual.result c.from_residual.ensures.1 in cc (p.1, p.2) in
     record {
       fixed = ap (λ x. (it.ready, x)) c.fits.ensures.fixed;
       shape = c.fits.ensures.shape;
@@ -33,10 +32,10 @@ returns g c =
     let h = g.D.SlotDevice.held it.device in
     let n = c.args.slot in
     let r = c.args.row.now in
-    let q = c.seal-row.new.row in
-    let ok : Ok c.in-ok-fits.field-0 ≡ _ = sym c.in-ok-fits.was ∙ c.fits.ensures.answer in
+    let q = c.seal_row.new.row in
+    let ok : Ok c.in_ok-fits.field-0 ≡ _ = sym c.in_ok-fits.was ∙ c.fits.ensures.answer in
     let q-long : length q ≡ length r = omega arith in
-    let w = written_through f s _ h _ (g.D.SlotDevice.held c.write.new.self) n c.in-ok-fits.field-0 r q c.write.result ok c.fits.ensures.shape c.fits.ensures.held q-long c.seal-row.ensures.seen c.seal-row.ensures.back c.write.ensures.answer c.write.ensures.held in
+    let w = written_through f s _ h _ (g.D.SlotDevice.held c.write.new.self) n c.in_ok-fits.field-0 r q c.write.result ok c.fits.ensures.shape c.fits.ensures.held q-long c.seal_row.ensures.seen c.seal_row.ensures.back c.write.ensures.answer c.write.ensures.held in
     record {
       fixed = ap (λ x. (it.ready, x)) (c.write.ensures.fixed ∙ c.fits.ensures.fixed);
       shape = c.write.ensures.shape ∙ c.fits.ensures.shape;
