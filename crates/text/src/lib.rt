@@ -1,3 +1,4 @@
+#![tactic(auto)]
 // The text that the programs read and write: lines and words, numbers, hexadecimal byte strings, what was wrong.
 pub mod fault;
 pub mod hex;
