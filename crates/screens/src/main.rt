@@ -1,3 +1,4 @@
+#![tactic(auto)]
 // Runs two lists of calls on two screens, and shows each answer and what the slots then hold.
 mod lists;
 mod script;
@@ -36,11 +37,8 @@ fn main(rt: HostRuntime) -> io::Result<()> {
     let mut input = BufReader::new(heap, rt.stdin())?;
     let mut script = Script::new(heap);
     take_all(heap, &mut input, &mut script)?;
-    let mut answers = Vec::new(heap);
-    let mut table = Vec::new(heap);
-    script.run(heap, &mut answers, &mut table)?;
+    let lines = script.run(heap)?;
     let mut output = BufWriter::new(heap, rt.stdout())?;
-    write_lines(&answers, &mut output)?;
-    write_lines(&table, &mut output)?;
+    write_lines(&lines, &mut output)?;
     output.flush()
 }

@@ -125,14 +125,18 @@ impl Script {
         words: &[&str],
         call: &[&str],
     ) -> Result<(), Fault> {
-        let list = match on {
-            Which::One => &mut self.first,
-            Which::Two => &mut self.second,
-        };
-        let at = list.len();
-        list.push(entry(heap, call)?)?;
+        let called = entry(heap, call)?;
         let text = joined(heap, words)?;
+        let at = match on {
+            Which::One => self.first.len(),
+            Which::Two => self.second.len(),
+        };
+        // the line first, so that no call is run that has no line to answer in
         self.lines.push(Line::Called { on, text, at })?;
+        match on {
+            Which::One => self.first.push(called)?,
+            Which::Two => self.second.push(called)?,
+        }
         Ok(())
     }
 
@@ -201,18 +205,18 @@ impl Script {
         }
     }
 
-    // Runs both lists, and gives the answer to each line and the table of the slots.
-    pub fn run(
-        &mut self,
-        heap: Global,
-        answers: &mut Vec<String>,
-        table: &mut Vec<String>,
-    ) -> Result<(), AllocError> {
-        let wrong = self.outcome(heap, table)?;
+    // Runs both lists, and gives the answer to each line and then the table of the slots.
+    pub fn run(&mut self, heap: Global) -> Result<Vec<String>, AllocError> {
+        let mut table = Vec::new(heap);
+        let wrong = self.outcome(heap, &mut table)?;
+        let mut lines = Vec::new(heap);
         for line in self.lines.iter() {
-            answers.push(self.answer_to(heap, line, &wrong)?)?;
+            lines.push(self.answer_to(heap, line, &wrong)?)?;
         }
-        Ok(())
+        for line in table.iter() {
+            lines.push(line.clone()?)?;
+        }
+        Ok(lines)
     }
 
     // The answer to one line of the script.

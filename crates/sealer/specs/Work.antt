@@ -1,7 +1,7 @@
 -- What the commands ask of a cipher and of the mode: forward and back are the cipher's two functions, n is the length of its keys.
-use Rattle.std.specs.Prelude.{ℕ, ◌-◌, List, [], ◌++◌, length, take, Ok, Err, Result}
+use Rattle.std.specs.Prelude.{ℕ, ◌-◌, List, [], ◌++◌, length, take, Ok, Result}
 use Rattle.base.specs.declared.refusals.Refusal.{Refusal}
-use Rattle.base.specs.Refusals.{Check, decided}
+use Rattle.base.specs.Refusals.{decided}
 use Rattle.base.specs.Bytes.{zeros}
 use Rattle.mode.specs.Bundles.{sealed_under, opened_under}
 use Rattle.mode.specs.Calls.{bundle_checks, length_checks, proof_checks, spare_zeroed, if_accepted, if_genuine}

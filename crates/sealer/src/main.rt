@@ -1,3 +1,4 @@
+#![tactic(auto)]
 // Reads commands on ciphers and messages, one a line, and answers each with one line.
 mod commands;
 mod work;

@@ -1,3 +1,4 @@
+#![tactic(auto)]
 // Looks into one slot device: reads commands, one a line, and answers each with one line.
 mod calls;
 mod session;

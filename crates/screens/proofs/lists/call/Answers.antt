@@ -15,10 +15,10 @@ pub returns-in-len2 : goal.returns-in-len2
 returns-in-len2 c =
     let words = c.args.words.now in
     let long : length words ≡ 2 = search rules in
-    IfOk-weaker c.call-on-slot.result (λ call. OfOne (word words 0) (word words 1) call) (λ call. Means (map (λ w. w.now) words) call) (λ call h. two_words words call long h) c.call-on-slot.ensures
+    IfOk-weaker c.call_on_slot.result (λ call. OfOne (word words 0) (word words 1) call) (λ call. Means (map (λ w. w.now) words) call) (λ call h. two_words words call long h) c.call_on_slot.ensures
 
 pub returns-in-len3 : goal.returns-in-len3
 returns-in-len3 c =
     let words = c.args.words.now in
     let long : length words ≡ 3 = search rules in
-    IfOk-weaker c.call-with-two.result (λ call. OfTwo (word words 0) (word words 1) (word words 2) call) (λ call. Means (map (λ w. w.now) words) call) (λ call h. three_words words call long h) c.call-with-two.ensures
+    IfOk-weaker c.call_with_two.result (λ call. OfTwo (word words 0) (word words 1) (word words 2) call) (λ call. Means (map (λ w. w.now) words) call) (λ call h. three_words words call long h) c.call_with_two.ensures
