@@ -1,3 +1,4 @@
+#![tactic(auto)]
 // The mode and CMAC for programs in C and Rust. Each call answers 0, or the number of a refusal.
 // The header is include/vanhseak.h.
 ghost use Rattle.std.specs.Prelude.{◌≡◌};
