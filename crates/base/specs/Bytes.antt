@@ -1,7 +1,7 @@
 -- Byte strings: lists of numbers below 256.
 use Rattle.std.specs.Prelude.{◌≡◌, ℕ, ◌<◌, Bool, true, ◌&&◌, List, [], ◌∷◌, length, replicate, ◌==◌, bit_xor, slice_index}
 
--- every element is a byte; past the end get_or gives 0, so this is asked of each index
+-- every element is a byte; past the end slice_index gives 0, so this is asked of each index
 abbrev pub AllBytes : List ℕ → Type 0
 AllBytes xs = (i : ℕ) → slice_index xs i < 256
 

@@ -17,7 +17,7 @@ pub struct Ready<C: BlockCipher> {
 
 fn pass_on(_row: &[u8]) {}
 
-// Does nothing; it tells that a row's bytes are bytes, which lending it on brings out.
+// Does nothing; it tells that a row's bytes are bytes, which passing it on brings out.
 fn note_bytes(row: &[u8])
     ensures { AllBytes row.now }
 {

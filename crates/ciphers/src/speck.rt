@@ -2,7 +2,7 @@
 ghost use Rattle.std.specs.Prelude.{◌≡◌, length};
 ghost use Rattle.base.specs.Bytes.{AllBytes};
 ghost use Rattle.base.specs.Numbers.{number, bytes};
-ghost use Rattle.ciphers.specs.Speck.{round as roundOf, unround as unroundOf, rounds, unrounds, round_keys, speck_forward, speck_back};
+ghost use Rattle.ciphers.specs.Speck.{round as round_of, unround as unround_of, rounds, unrounds, round_keys, speck_forward, speck_back};
 ghost use Rattle.ciphers.specs.SpeckUndoing;
 ghost use Rattle.std.proofs.Common.{rules, arith};
 
@@ -11,7 +11,7 @@ use base::Refusal;
 
 // One round on the words (a, b) with a round key.
 fn round(a: u64, b: u64, key: u64) -> (u64, u64)
-    ensures { result ≡ roundOf (a, b) key }
+    ensures { result ≡ round_of (a, b) key }
 {
     let new_a = a.rotate_right(8).wrapping_add(b) ^ key;
     (new_a, b.rotate_left(3) ^ new_a)
@@ -19,7 +19,7 @@ fn round(a: u64, b: u64, key: u64) -> (u64, u64)
 
 // A round undone.
 fn unround(a: u64, b: u64, key: u64) -> (u64, u64)
-    ensures { result ≡ unroundOf (a, b) key }
+    ensures { result ≡ unround_of (a, b) key }
 {
     let old_b = (b ^ a).rotate_right(3);
     ((a ^ key).wrapping_sub(old_b).rotate_left(8), old_b)

@@ -2,7 +2,7 @@
 // The mode and CMAC for programs in C and Rust. Each call answers 0, or the number of a refusal.
 // The header is include/vanhseak.h.
 ghost use Rattle.std.specs.Prelude.{◌≡◌};
-ghost use Rattle.ciphers.specs.Aes.{forward as aesForward, back as aesBack};
+ghost use Rattle.ciphers.specs.Aes.{forward as aes_forward, back as aes_back};
 ghost use Rattle.ciphers.specs.Speck.{speck_forward, speck_back};
 ghost use Rattle.ffi.specs.Statuses.{status_of, answer as answer_of, proof_answer, after_seal, after_open, after_seal_with_proof, after_open_with_proof, cmac_answer, after_cmac};
 
@@ -41,7 +41,7 @@ pub extern "C" fn vanhseak_aes128_seal(
     message: &mut [u8],
 ) -> usize
     ensures answer { result ≡ status_of (answer_of bundle.now nonce.now ad.now message.old) }
-    ensures after { message.new ≡ after_seal (aesForward 4) bundle.now nonce.now ad.now message.old }
+    ensures after { message.new ≡ after_seal (aes_forward 4) bundle.now nonce.now ad.now message.old }
 {
     status(seal::<Aes128>(bundle, nonce, ad, message))
 }
@@ -54,7 +54,7 @@ pub extern "C" fn vanhseak_aes128_open(
     message: &mut [u8],
 ) -> usize
     ensures answer { result ≡ status_of (answer_of bundle.now nonce.now ad.now message.old) }
-    ensures after { message.new ≡ after_open (aesForward 4) (aesBack 4) bundle.now nonce.now ad.now message.old }
+    ensures after { message.new ≡ after_open (aes_forward 4) (aes_back 4) bundle.now nonce.now ad.now message.old }
 {
     status(open::<Aes128>(bundle, nonce, ad, message))
 }
@@ -67,7 +67,7 @@ pub extern "C" fn vanhseak_aes128_seal_with_proof(
     message: &mut [u8],
 ) -> usize
     ensures answer { result ≡ status_of (answer_of bundle.now nonce.now ad.now message.old) }
-    ensures after { message.new ≡ after_seal_with_proof (aesForward 4) bundle.now nonce.now ad.now message.old }
+    ensures after { message.new ≡ after_seal_with_proof (aes_forward 4) bundle.now nonce.now ad.now message.old }
 {
     status(seal_with_proof::<Aes128>(bundle, nonce, ad, message))
 }
@@ -79,8 +79,8 @@ pub extern "C" fn vanhseak_aes128_open_with_proof(
     ad: &[u8],
     message: &mut [u8],
 ) -> usize
-    ensures answer { result ≡ status_of (proof_answer (aesForward 4) (aesBack 4) bundle.now nonce.now ad.now message.old) }
-    ensures after { message.new ≡ after_open_with_proof (aesForward 4) (aesBack 4) bundle.now nonce.now ad.now message.old }
+    ensures answer { result ≡ status_of (proof_answer (aes_forward 4) (aes_back 4) bundle.now nonce.now ad.now message.old) }
+    ensures after { message.new ≡ after_open_with_proof (aes_forward 4) (aes_back 4) bundle.now nonce.now ad.now message.old }
 {
     status(open_with_proof::<Aes128>(bundle, nonce, ad, message))
 }
@@ -140,7 +140,7 @@ pub extern "C" fn vanhseak_speck128_open_with_proof(
 #[unsafe(no_mangle)]
 pub extern "C" fn vanhseak_aes128_cmac(key: &[u8], message: &[u8], code: &mut [u8; 16]) -> usize
     ensures answer { result ≡ status_of (cmac_answer 16 key.now message.now) }
-    ensures after { code.new ≡ after_cmac (aesForward 4) 16 key.now message.now code.old }
+    ensures after { code.new ≡ after_cmac (aes_forward 4) 16 key.now message.now code.old }
 {
     status(authenticate::<Aes128>(key, message, code))
 }

@@ -15,7 +15,7 @@ use Rattle.mode.proofs.Genuine.{zeroed_message, zeroed_genuine}
 use Rattle.mode.proofs.Whole as whole
 use Rattle.mode.proofs.Alike.{sealed_alike}
 
-module _ (prf blk blkBack : List ℕ → List ℕ) (hp : OnBlocks prf) (inverse : Inverse blk blkBack) (tau : ℕ) where
+module _ (prf blk blk_back : List ℕ → List ℕ) (hp : OnBlocks prf) (inverse : Inverse blk blk_back) (tau : ℕ) where
   module _ (nonce ad : List ℕ) (hn : AllBytes nonce) (ha : AllBytes ad) where
     -- the betas are elements
     lt-one : (l : ℕ) → beta_one prf nonce ad l < 2 ^ 128
@@ -26,38 +26,38 @@ module _ (prf blk blkBack : List ℕ → List ℕ) (hp : OnBlocks prf) (inverse 
 
     pub sealed_long : (m : List ℕ) → Message m → length (sealed prf blk tau nonce ad m) ≡ length m
     unfolding sealed
-    sealed_long m hm = whole.sealed_long blk blkBack tau _ _ m (lt-one (length m)) (lt-two (length m)) hm inverse.forth
+    sealed_long m hm = whole.sealed_long blk blk_back tau _ _ m (lt-one (length m)) (lt-two (length m)) hm inverse.forth
 
-    pub opened_long : (m : List ℕ) → Message m → length (opened prf blkBack tau nonce ad m) ≡ length m
+    pub opened_long : (m : List ℕ) → Message m → length (opened prf blk_back tau nonce ad m) ≡ length m
     unfolding opened
-    opened_long m hm = whole.opened_long blk blkBack tau _ _ m (lt-one (length m)) (lt-two (length m)) hm inverse.back
+    opened_long m hm = whole.opened_long blk blk_back tau _ _ m (lt-one (length m)) (lt-two (length m)) hm inverse.back
 
     pub sealed_message : (m : List ℕ) → Message m → Message (sealed prf blk tau nonce ad m)
     unfolding sealed
-    sealed_message m hm = whole.sealed_message blk blkBack tau _ _ m (lt-one (length m)) (lt-two (length m)) hm inverse.forth
+    sealed_message m hm = whole.sealed_message blk blk_back tau _ _ m (lt-one (length m)) (lt-two (length m)) hm inverse.forth
 
-    pub opened_message : (m : List ℕ) → Message m → Message (opened prf blkBack tau nonce ad m)
+    pub opened_message : (m : List ℕ) → Message m → Message (opened prf blk_back tau nonce ad m)
     unfolding opened
-    opened_message m hm = whole.opened_message blk blkBack tau _ _ m (lt-one (length m)) (lt-two (length m)) hm inverse.back
+    opened_message m hm = whole.opened_message blk blk_back tau _ _ m (lt-one (length m)) (lt-two (length m)) hm inverse.back
 
-    pub open_seal : (m : List ℕ) → Message m → opened prf blkBack tau nonce ad (sealed prf blk tau nonce ad m) ≡ m
+    pub open_seal : (m : List ℕ) → Message m → opened prf blk_back tau nonce ad (sealed prf blk tau nonce ad m) ≡ m
     unfolding sealed opened
     open_seal m hm =
-        ap (λ (l : ℕ). opened_with blkBack tau (beta_one prf nonce ad l) (beta_two prf nonce ad l) (sealed_with blk tau (beta_one prf nonce ad (length m)) (beta_two prf nonce ad (length m)) m)) (sealed_long m hm)
-        ∙ whole.open_seal blk blkBack tau _ _ m (lt-one (length m)) (lt-two (length m)) hm inverse.forth
+        ap (λ (l : ℕ). opened_with blk_back tau (beta_one prf nonce ad l) (beta_two prf nonce ad l) (sealed_with blk tau (beta_one prf nonce ad (length m)) (beta_two prf nonce ad (length m)) m)) (sealed_long m hm)
+        ∙ whole.open_seal blk blk_back tau _ _ m (lt-one (length m)) (lt-two (length m)) hm inverse.forth
 
-    pub seal_open : (m : List ℕ) → Message m → sealed prf blk tau nonce ad (opened prf blkBack tau nonce ad m) ≡ m
+    pub seal_open : (m : List ℕ) → Message m → sealed prf blk tau nonce ad (opened prf blk_back tau nonce ad m) ≡ m
     unfolding sealed opened
     seal_open m hm =
-        ap (λ (l : ℕ). sealed_with blk tau (beta_one prf nonce ad l) (beta_two prf nonce ad l) (opened_with blkBack tau (beta_one prf nonce ad (length m)) (beta_two prf nonce ad (length m)) m)) (opened_long m hm)
-        ∙ whole.seal_open blk blkBack tau _ _ m (lt-one (length m)) (lt-two (length m)) hm inverse.back
+        ap (λ (l : ℕ). sealed_with blk tau (beta_one prf nonce ad l) (beta_two prf nonce ad l) (opened_with blk_back tau (beta_one prf nonce ad (length m)) (beta_two prf nonce ad (length m)) m)) (opened_long m hm)
+        ∙ whole.seal_open blk blk_back tau _ _ m (lt-one (length m)) (lt-two (length m)) hm inverse.back
 
   -- two messages with one sealed form are one
   sealed_same : (nonce ad m other : List ℕ) → AllBytes nonce → AllBytes ad → Message m → Message other → sealed prf blk tau nonce ad m ≡ sealed prf blk tau nonce ad other → m ≡ other
   sealed_same nonce ad m other hn ha hm ho e =
-      sym (open_seal nonce ad hn ha m hm) ∙ ap (opened prf blkBack tau nonce ad) e ∙ open_seal nonce ad hn ha other ho
+      sym (open_seal nonce ad hn ha m hm) ∙ ap (opened prf blk_back tau nonce ad) e ∙ open_seal nonce ad hn ha other ho
 
-  pub form_laws : FormLaws (sealed prf blk tau) (opened prf blkBack tau)
+  pub form_laws : FormLaws (sealed prf blk tau) (opened prf blk_back tau)
   form_laws = record {
     open_undoes_seal = λ nonce ad m hn ha hm. open_seal nonce ad hn ha m hm;
     seal_undoes_open = λ nonce ad m hn ha hm. seal_open nonce ad hn ha m hm;
@@ -67,7 +67,7 @@ module _ (prf blk blkBack : List ℕ → List ℕ) (hp : OnBlocks prf) (inverse 
     opened_is_message = λ nonce ad m hn ha hm. opened_message nonce ad hn ha m hm;
     sealed_apart = λ nonce ad m other hn ha hm ho l ne e. ne (sealed_same nonce ad m other hn ha hm ho e);
     some_message = λ nonce ad s hn ha hs l.
-        (opened prf blkBack tau nonce ad s, (opened_message nonce ad hn ha s hs, opened_long nonce ad hn ha s hs, seal_open nonce ad hn ha s hs));
+        (opened prf blk_back tau nonce ad s, (opened_message nonce ad hn ha s hs, opened_long nonce ad hn ha s hs, seal_open nonce ad hn ha s hs));
     only_message = λ nonce ad s m other hn ha hm ho lm lo em eo. sealed_same nonce ad m other hn ha hm ho (em ∙ sym eo);
     sealed_with_proof_is_genuine = λ nonce ad m hn ha hm.
         ap genuine (open_seal nonce ad hn ha (spare_zeroed m) (zeroed_message m hm)) ∙ zeroed_genuine m hm.long;

@@ -58,7 +58,7 @@ pub record ModeLaws : Type 0 where
   pub decipher_undoes_encipher : (f g : List ℕ → List ℕ) → Inverse f g → (m : List ℕ) → Message m → deciphered g (enciphered f m) ≡ m
   pub encipher_undoes_decipher : (f g : List ℕ → List ℕ) → Inverse f g → (m : List ℕ) → Message m → enciphered f (deciphered g m) ≡ m
   -- sealing and opening, over the functions of the prf key and of the blk key, for every tau
-  pub forms : (prf blk blkBack : List ℕ → List ℕ) → OnBlocks prf → Inverse blk blkBack → (tau : ℕ) → FormLaws (sealed prf blk tau) (opened prf blkBack tau)
+  pub forms : (prf blk blk_back : List ℕ → List ℕ) → OnBlocks prf → Inverse blk blk_back → (tau : ℕ) → FormLaws (sealed prf blk tau) (opened prf blk_back tau)
   -- and under every bundle of a cipher whose functions of key and block undo each other under every key of n bytes
   pub under_bundles : (forward back : List ℕ → List ℕ → List ℕ) (n : ℕ) → ((k : List ℕ) → Key n k → Inverse (forward k) (back k)) →
       (bundle : List ℕ) → Key (16 + 2 * n) bundle → FormLaws (sealed_under forward n bundle) (opened_under forward back n bundle)

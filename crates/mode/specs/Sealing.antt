@@ -29,7 +29,7 @@ sealed_with blk tau one two m = unhashed tau two (enciphered blk (hashed tau one
 
 -- opening with two betas: hash with the second, undo the enciphering, undo a hashing with the first
 unfoldable pub opened_with : (List ℕ → List ℕ) → ℕ → ℕ → ℕ → List ℕ → List ℕ
-opened_with blkBack tau one two m = unhashed tau one (deciphered blkBack (hashed tau two m))
+opened_with blk_back tau one two m = unhashed tau one (deciphered blk_back (hashed tau two m))
 
 -- the sealed form of a message, over the prf key's function and the blk key's, both forward
 unfoldable pub sealed : (List ℕ → List ℕ) → (List ℕ → List ℕ) → ℕ → List ℕ → List ℕ → List ℕ → List ℕ
@@ -37,4 +37,4 @@ sealed prf blk tau nonce ad m = sealed_with blk tau (beta_one prf nonce ad (leng
 
 -- the opened form of a message, over the prf key's function, forward, and the blk key's, back
 unfoldable pub opened : (List ℕ → List ℕ) → (List ℕ → List ℕ) → ℕ → List ℕ → List ℕ → List ℕ → List ℕ
-opened prf blkBack tau nonce ad m = opened_with blkBack tau (beta_one prf nonce ad (length m)) (beta_two prf nonce ad (length m)) m
+opened prf blk_back tau nonce ad m = opened_with blk_back tau (beta_one prf nonce ad (length m)) (beta_two prf nonce ad (length m)) m
