@@ -1,7 +1,8 @@
 -- A message is its blocks and its tail: cutting one that was assembled, and assembling one that was cut.
-use Rattle.std.proofs.Common.{◌≡◌, ℕ, zero, suc, ◌+◌, ◌-◌, ◌*◌, ◌/◌, ◌%◌, ◌<◌, ◌≤◌, List, ◌∷◌, ◌++◌, length, take, drop, set, sym, refl, ap, ◌∙◌, inl, inr, arith, length-append, length-drop, length-take}
+use Rattle.std.proofs.Common.{◌≡◌, ℕ, zero, suc, ◌+◌, ◌-◌, ◌*◌, ◌/◌, ◌%◌, ◌<◌, ◌≤◌, List, [], ◌∷◌, ◌++◌, length, get_or, take, drop, set, sym, refl, ap, ◌∙◌, inl, inr, arith, length-append, length-drop, length-take}
 use Rattle.std.proofs.lemmas.List.{append_assoc, take_at, drop_at, drop-drop, take-append-drop, take-append-le, drop-append-le, set_at, drop-replicate}
 use Rattle.std.proofs.lemmas.Bool.{cases_lt}
+use Rattle.std.specs.Simd.{first_chunks}
 use borrow.Rule.Slice.PartMut.{put_mid}
 use Rattle.base.specs.Bytes.{AllBytes, Block, zeros}
 use Rattle.base.specs.Blocks.{Message, block_at, last_index, tail_of, blocks_joined, assembled, with_block, zero_padded, ended_by}
@@ -194,3 +195,13 @@ block_right a xs ys e i =
 
 pub zero_padded_long : (t : List ℕ) → length (zero_padded t) ≡ (length t + 15) / 16 * 16
 zero_padded_long t = length-append t _ ∙ omega (arith, zeros_long ((16 - length t % 16) % 16))
+
+-- ---- chunks
+
+-- chunk i of n elements each
+pub chunk_at : (n k : ℕ) (xs : List ℕ) (i : ℕ) → i < k → get_or (first_chunks n k xs) i [] ≡ take n (drop (n * i) xs)
+chunk_at n zero xs i h = absurd (omega arith)
+chunk_at n (suc k) xs zero h = let z : 0 ≡ n * 0 = omega arith in ap (λ (m : ℕ). take n (drop m xs)) z
+chunk_at n (suc k) xs (suc i) h =
+    let m : n + n * i ≡ n * suc i = omega arith in
+    chunk_at n k (drop n xs) i (omega arith) ∙ ap (take n) (drop-drop (n * i) n xs ∙ ap (λ (j : ℕ). drop j xs) m)

@@ -6,6 +6,7 @@ ghost use Rattle.base.specs.Bytes.{xor_front, zeros, all_zero};
 pub fn xor_front(a: &mut [u8], b: &[u8])
     ensures { a.new ≡ xor_front a.old b.now }
 {
+    // by index: after `a.iter_mut().zip(b)` a proof does not know what was written
     for i in 0..a.len().min(b.len()) {
         a[i] ^= b[i];
     }
@@ -22,10 +23,5 @@ pub fn wipe(s: &mut [u8])
 pub fn all_zero(bytes: &[u8]) -> bool
     ensures { result ≡ all_zero bytes.now }
 {
-    for byte in bytes {
-        if *byte != 0 {
-            return false;
-        }
-    }
-    true
+    bytes.iter().all(|byte| *byte == 0)
 }

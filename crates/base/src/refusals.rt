@@ -1,9 +1,12 @@
 // The refusals, each with its number and its name.
-ghost use Rattle.std.specs.Prelude.{◌≡◌};
+ghost use Rattle.std.specs.Prelude.{◌≡◌, Some};
 ghost use Rattle.base.specs.Refusals.{number_of, name_of};
 
+use std::error::Error;
+use std::fmt;
+
 // Why a call was declined. A call names its checks in order, and the first that hits decides.
-#[derive(Clone, Copy, PartialEq, Eq, Debug)]
+#[derive(Clone, Copy, PartialEq, Eq, Hash, Debug)]
 pub enum Refusal {
     // the slot count, the longest row or the cell count is out of range, or the memory is not as long as its layout
     BadDimensions = 1,
@@ -32,25 +35,16 @@ impl Refusal {
     pub fn number(self) -> usize
         ensures { result ≡ number_of self }
     {
-        match self {
-            Refusal::BadDimensions => 1,
-            Refusal::MalformedMemory => 2,
-            Refusal::WrongKeyLength => 3,
-            Refusal::ContextTooLong => 4,
-            Refusal::NoSuchSlot => 5,
-            Refusal::WrongLength => 6,
-            Refusal::EmptySlot => 7,
-            Refusal::BufferTooShort => 8,
-            Refusal::NoRoom => 9,
-            Refusal::NotGenuine => 10,
-        }
+        self as usize
     }
+}
 
-    // The name that the refusal is reported by.
-    pub fn name(self) -> &'static str
-        ensures { result.now ≡ name_of self }
-    {
-        match self {
+// Prints the name that the refusal is reported by, spelled out since the contract states each name.
+impl fmt::Display for Refusal {
+    ghost output = { λ refusal. Some (name_of refusal) };
+
+    fn fmt<W: fmt::Write>(&self, f: &mut fmt::Formatter<W>) -> fmt::Result {
+        f.write_str(match self {
             Refusal::BadDimensions => "BadDimensions",
             Refusal::MalformedMemory => "MalformedMemory",
             Refusal::WrongKeyLength => "WrongKeyLength",
@@ -61,6 +55,8 @@ impl Refusal {
             Refusal::BufferTooShort => "BufferTooShort",
             Refusal::NoRoom => "NoRoom",
             Refusal::NotGenuine => "NotGenuine",
-        }
+        })
     }
 }
+
+impl Error for Refusal {}

@@ -1,49 +1,59 @@
--- What the loops over the rounds leave, and what a cipher that holds its expanded key gives, for every number of key words.
-use Rattle.std.proofs.Common.{◌≡◌, ℕ, suc, ◌+◌, ◌-◌, ◌*◌, ◌/◌, ◌<◌, List, length, take, drop, sym, refl, ap, ◌∙◌, arith}
+-- What folds of the rounds give, and what a cipher that holds its expanded key gives, for every number of key words.
+use Rattle.std.proofs.Common.{◌≡◌, ℕ, zero, suc, ◌+◌, ◌-◌, ◌*◌, ◌/◌, ◌<◌, ◌≤◌, List, [], ◌∷◌, reverse, length, get_or, take, drop, fold, sym, refl, ap, ◌∙◌, add-one, arith}
+use Rattle.std.specs.Simd.{first_chunks}
+use Rattle.std.proofs.lemmas.List.{take_more, get_or-drop, length-drop, reverse-append}
+use Rattle.std.proofs.lemmas.List.Sums.{fold_more}
 use Rattle.ciphers.specs.AesSteps.{sub_bytes, inv_sub_bytes, shift_rows, inv_shift_rows, add_round_key}
 use Rattle.ciphers.specs.AesSchedule.{expanded, rounds_of, key_expansion}
 use Rattle.ciphers.specs.Aes.{round_key, round, inv_round, rounds, inv_rounds, cipher, inv_cipher, forward, back}
 use Rattle.ciphers.specs.AesScheduleLemmas.{expanded_long, begins_with_key}
+use Rattle.base.proofs.Cutting.{chunk_at}
 
--- ---- rounds
+-- ---- rounds over the round keys, which are chunks of the expanded key
 
-pub rounds_more : (w s x k : List ℕ) (n : ℕ) → 0 < n → x ≡ rounds w s (n - 1) → k ≡ round_key w n → round x k ≡ rounds w s (n + 1 - 1)
-unfolding rounds
-rounds_more w s x k n h e f =
-    let m : suc (n - 1) ≡ n = omega arith in
-    let m' : n + 1 - 1 ≡ suc (n - 1) = omega arith in
-    ap (λ (y : List ℕ). round y k) e ∙ ap (round (rounds w s (n - 1))) (f ∙ ap (round_key w) (sym m)) ∙ sym (ap (rounds w s) m')
+module _ (w : List ℕ) (ks : List (List ℕ)) (e : ks ≡ first_chunks 16 (length w / 16) w) (l : length ks ≡ length w / 16) where
+  key_at : (i : ℕ) → i < length ks → get_or ks i [] ≡ round_key w i
+  key_at i h = ap (λ (c : List (List ℕ)). get_or c i []) e ∙ chunk_at 16 (length w / 16) w i (omega arith)
 
-pub inv_rounds_more : (w s k : List ℕ) (n : ℕ) → 1 < n → k ≡ round_key w (n - 1) → inv_rounds w (inv_round s k) (n - 1 - 1) ≡ inv_rounds w s (n - 1)
-unfolding inv_rounds
-inv_rounds_more w s k n h f =
-    let m : suc (n - 1 - 1) ≡ n - 1 = omega arith in
-    ap (λ (y : List ℕ). inv_rounds w (inv_round s y) (n - 1 - 1)) (f ∙ ap (round_key w) (sym m)) ∙ ap (inv_rounds w s) m
+  middle_at : (m : ℕ) → m + 1 < length ks → get_or (drop 1 ks) m [] ≡ round_key w (suc m)
+  middle_at m h = let n : 1 + m ≡ suc m = omega arith in get_or-drop 1 ks m [] ∙ ap (λ (i : ℕ). get_or ks i []) n ∙ key_at (suc m) (omega arith)
 
-inv_rounds_none : (w s : List ℕ) (n : ℕ) → n ≡ 0 → inv_rounds w s n ≡ s
-unfolding inv_rounds
-inv_rounds_none w s n e = ap (inv_rounds w s) e
+  rounds_folded : (s : List ℕ) (m : ℕ) → m + 1 ≤ length ks → fold round s (take m (drop 1 ks)) ≡ rounds w s m
+  unfolding rounds
+  rounds_folded s zero h = refl
+  rounds_folded s (suc m) h =
+      ap (λ (n : ℕ). fold round s (take n (drop 1 ks))) (sym (add-one m))
+      ∙ fold_more round s (drop 1 ks) m [] (simp length-drop (omega arith))
+      ∙ (λ z. round (rounds_folded s m (omega arith) z) (middle_at m (omega arith) z))
 
-pub rounds_none : (w s : List ℕ) → rounds w s 0 ≡ s
-unfolding rounds
-rounds_none w s = refl
+  inv_rounds_folded : (s : List ℕ) (m : ℕ) → m + 1 ≤ length ks → fold inv_round s (reverse (take m (drop 1 ks))) ≡ inv_rounds w s m
+  unfolding inv_rounds
+  inv_rounds_folded s zero h = refl
+  inv_rounds_folded s (suc m) h =
+      ap (λ (n : ℕ). fold inv_round s (reverse (take n (drop 1 ks)))) (sym (add-one m))
+      ∙ ap (λ (ys : List (List ℕ)). fold inv_round s (reverse ys)) (take_more (drop 1 ks) m [] (simp length-drop (omega arith)))
+      ∙ ap (fold inv_round s) (reverse-append (take m (drop 1 ks)) (get_or (drop 1 ks) m [] ∷ []))
+      ∙ inv_rounds_folded (inv_round s (get_or (drop 1 ks) m [])) m (omega arith)
+      ∙ ap (λ (k : List ℕ). inv_rounds w (inv_round s k) m) (middle_at m (omega arith))
 
--- all rounds, with the first key and the last
-pub cipher_made : (nr i k : ℕ) (w b s x out : List ℕ) → i ≡ nr → k ≡ 16 → s ≡ add_round_key b (take 16 w) → x ≡ rounds w s (i - 1)
-    → out ≡ add_round_key (shift_rows (sub_bytes x)) (take k (drop (16 * nr) w)) → out ≡ cipher nr w b
-unfolding cipher
-cipher_made nr i k w b s x out ni ke first inner last =
-    last ∙ ap (λ (n : ℕ). add_round_key (shift_rows (sub_bytes x)) (take n (drop (16 * nr) w))) ke
-    ∙ ap (λ (y : List ℕ). add_round_key (shift_rows (sub_bytes y)) (round_key w nr)) (inner ∙ ap (λ (n : ℕ). rounds w s (n - 1)) ni ∙ ap (λ (y : List ℕ). rounds w y (nr - 1)) first)
+  -- all rounds, with the first key and the last
+  pub cipher_folded : (b : List ℕ) → 32 ≤ length w
+      → add_round_key (shift_rows (sub_bytes (fold round (add_round_key b (get_or ks 0 [])) (take (length ks - 1 - 1) (drop 1 ks))))) (get_or ks (length ks - 1) [])
+      ≡ cipher (length w / 16 - 1) w b
+  unfolding cipher
+  cipher_folded b h =
+      (λ z. add_round_key (shift_rows (sub_bytes (fold round (add_round_key b (key_at 0 (omega arith) z)) (take (length ks - 1 - 1) (drop 1 ks))))) (key_at (length ks - 1) (omega arith) z))
+      ∙ ap (λ (x : List ℕ). add_round_key (shift_rows (sub_bytes x)) (round_key w (length ks - 1))) (rounds_folded (add_round_key b (round_key w 0)) (length ks - 1 - 1) (omega arith))
+      ∙ ap (λ (n : ℕ). add_round_key (shift_rows (sub_bytes (rounds w (add_round_key b (round_key w 0)) (n - 1 - 1)))) (round_key w (n - 1))) l
 
-pub inv_cipher_made : (nr i k : ℕ) (w b s x out : List ℕ) → i - 1 ≡ 0 → k ≡ 16 → s ≡ inv_sub_bytes (inv_shift_rows (add_round_key b (take k (drop (16 * nr) w))))
-    → inv_rounds w x (i - 1) ≡ inv_rounds w s (nr - 1) → out ≡ add_round_key x (take 16 w) → out ≡ inv_cipher nr w b
-unfolding inv_cipher
-inv_cipher_made nr i k w b s x out none ke first inner last =
-    last
-    ∙ ap (λ (y : List ℕ). add_round_key y (take 16 w))
-    (sym (inv_rounds_none w x (i - 1) none) ∙ inner
-    ∙ ap (λ (y : List ℕ). inv_rounds w y (nr - 1)) (first ∙ ap (λ (n : ℕ). inv_sub_bytes (inv_shift_rows (add_round_key b (take n (drop (16 * nr) w))))) ke))
+  pub inv_cipher_folded : (b : List ℕ) → 32 ≤ length w
+      → add_round_key (fold inv_round (inv_sub_bytes (inv_shift_rows (add_round_key b (get_or ks (length ks - 1) [])))) (reverse (take (length ks - 1 - 1) (drop 1 ks)))) (get_or ks 0 [])
+      ≡ inv_cipher (length w / 16 - 1) w b
+  unfolding inv_cipher
+  inv_cipher_folded b h =
+      (λ z. add_round_key (fold inv_round (inv_sub_bytes (inv_shift_rows (add_round_key b (key_at (length ks - 1) (omega arith) z)))) (reverse (take (length ks - 1 - 1) (drop 1 ks)))) (key_at 0 (omega arith) z))
+      ∙ ap (λ (x : List ℕ). add_round_key x (round_key w 0)) (inv_rounds_folded (inv_sub_bytes (inv_shift_rows (add_round_key b (round_key w (length ks - 1))))) (length ks - 1 - 1) (omega arith))
+      ∙ ap (λ (n : ℕ). add_round_key (inv_rounds w (inv_sub_bytes (inv_shift_rows (add_round_key b (round_key w (n - 1))))) (n - 1 - 1)) (round_key w 0)) l
 
 -- ---- a cipher that holds its expanded key, for every number of key words
 

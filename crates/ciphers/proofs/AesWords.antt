@@ -1,15 +1,19 @@
 -- What the loops and the writes of the key expansion leave.
-use Rattle.std.proofs.Common.{◌≡◌, ℕ, suc, ◌+◌, ◌-◌, ◌*◌, ◌/◌, ◌<◌, ◌≤◌, true, false, List, [], ◌∷◌, ◌++◌, length, get_or, take, drop, set, sym, refl, ap, ◌∙◌, arith}
+use Rattle.std.proofs.Common.{◌≡◌, ℕ, zero, suc, ◌+◌, ◌-◌, ◌*◌, ◌/◌, ◌<◌, ◌≤◌, true, false, List, [], ◌∷◌, ◌++◌, length, get_or, take, drop, set, fold, sym, refl, ap, ◌∙◌, arith}
 use lib.Bits.{bit_xor}
 use borrow.Rule.Slice.PartMut.{put_mid}
+use Rattle.std.specs.Simd.{first_chunks}
+use Rattle.std.specs.List.{range_with_len}
 use Rattle.std.proofs.lemmas.Bool.{cond-true, cond-false}
 use Rattle.std.proofs.lemmas.List.{take_at, drop_at, drop_all, append-nil}
 use Rattle.base.specs.Bytes.{xor_front}
 use Rattle.base.specs.Polynomials.{power}
 use Rattle.base.proofs.Strings.{front_none}
 use Rattle.ciphers.specs.AesField.{product}
+use Rattle.ciphers.specs.AesSteps.{word}
 use Rattle.ciphers.specs.AesSchedule.{rot_word, sub_word, round_constant, turned_at, substituted_at, temp, next_word, expanded}
 use Rattle.ciphers.specs.AesScheduleLemmas.{expanded_long}
+use Rattle.base.proofs.Cutting.{chunk_at}
 use Rattle.ciphers.proofs.AesLoops.{grown}
 
 pub words_none : (nk : ℕ) (key rest xs : List ℕ) → length key ≡ 4 * nk → xs ≡ key ++ rest → xs ≡ expanded nk key (nk - nk) ++ drop (4 * nk) xs
@@ -52,14 +56,28 @@ module _ (nk : ℕ) (key : List ℕ) (p : 0 < nk) (l : length key ≡ 4 * nk) wh
   pub words_all : (i : ℕ) (old xs : List ℕ) → length old ≤ 4 * i → xs ≡ expanded nk key (i - nk) ++ drop (4 * i) old → xs ≡ expanded nk key (i - nk)
   words_all i old xs h inv = inv ∙ ap (λ (z : List ℕ). expanded nk key (i - nk) ++ z) (drop_all (4 * i) old h) ∙ append-nil (expanded nk key (i - nk))
 
--- one doubling more
-pub constant_more : (i : ℕ) → 0 < i → product 2 (round_constant i) ≡ round_constant (i + 1)
-unfolding round_constant power
-constant_more i h = let n : i + 1 - 1 ≡ suc (i - 1) = omega arith in sym (ap (power 8 0x11b 2) n)
+-- the next word by the chunks of the words before it
+pub word_chunked : (nk : ℕ) (ws : List ℕ) (cs : List (List ℕ)) → 0 < nk → nk ≤ length ws / 4 → cs ≡ first_chunks 4 (length ws / 4) ws → length cs ≡ length ws / 4
+    → xor_front (get_or cs (length cs - nk) []) (temp nk (length cs) (get_or cs (length cs - 1) [])) ≡ next_word nk (length ws / 4) ws
+unfolding next_word
+word_chunked nk ws cs p h e l =
+    let one : (i : ℕ) → i < length ws / 4 → get_or cs i [] ≡ word i ws = λ i b. ap (λ (c : List (List ℕ)). get_or c i []) e ∙ chunk_at 4 (length ws / 4) ws i b in
+    ap (λ (n : ℕ). xor_front (get_or cs (n - nk) []) (temp nk n (get_or cs (n - 1) []))) l
+    ∙ (λ z. xor_front (one (length ws / 4 - nk) (omega arith) z) (temp nk (length ws / 4) (one (length ws / 4 - 1) (omega arith) z)))
 
-pub constant_same : (i j : ℕ) → i - 1 ≡ j - 1 → round_constant i ≡ round_constant j
+-- one doubling after the other
+doubled_later : (z : ℕ) (xs : List ℕ) → fold (λ p x. product 2 p) (product 2 z) xs ≡ product 2 (fold (λ p x. product 2 p) z xs)
+doubled_later z [] = refl
+doubled_later z (x ∷ xs) = doubled_later (product 2 z) xs
+
+doubled_powers : (a n : ℕ) → fold (λ p x. product 2 p) 1 (range_with_len a n) ≡ power 8 0x11b 2 n
+unfolding power
+doubled_powers a zero = refl
+doubled_powers a (suc n) = doubled_later 1 (range_with_len (a + 1) n) ∙ ap (product 2) (doubled_powers (a + 1) n)
+
+pub constant_doubled : (j : ℕ) → fold (λ p x. product 2 p) 1 (range_with_len 1 (j - 1)) ≡ round_constant j
 unfolding round_constant
-constant_same i j e = ap (power 8 0x11b 2) e
+constant_doubled j = doubled_powers 1 (j - 1)
 
 -- a byte added onto the first of a word
 first_added : (w : List ℕ) (x : ℕ) → set w 0 (bit_xor (get_or w 0 0) x) ≡ xor_front w (x ∷ [])

@@ -1,3 +1,4 @@
+mod Made
 mod AesLoops
 mod AesWords
 mod AesMade

@@ -41,6 +41,9 @@ product_two a h =
     times27 (suc zero) l = refl
     times27 (suc (suc n)) l = absurd (omega arith)
 
+pub doubled_byte : (a : ℕ) → a < 256 → product 2 a ≡ twice 7 27 a
+doubled_byte a h = rings.times_two 6 27 small a h
+
 -- one more, and twice as many
 plus_one : (k a : ℕ) → a < 256 → product (bit_xor k 1) a ≡ bit_xor (product k a) a
 plus_one k a h = rings.times_sum_left 7 27 small k 1 a h ∙ ap (bit_xor (product k a)) (product_one a h)
@@ -72,6 +75,7 @@ module _ (a : ℕ) (h : a < 256) where
   unfolding times carryless remainder
   by_twelve = doubled 6 a (omega arith) h ∙ ap (product 2) by_six
 
+  -- the factors of the way back, one by one; the code multiplies by any factor
   pub by_nine : product 9 a ≡ bit_xor (product 2 (product 2 (product 2 a))) a
   by_nine = plus_one 8 a h ∙ ap (λ (x : ℕ). bit_xor x a) by_eight
 

@@ -33,6 +33,14 @@ inv_shift_rows s = state (λ r c. at s r ((c + 4 - r) % 4))
 unfoldable pub row : ℕ → ℕ → ℕ → ℕ → List ℕ → ℕ
 row k l m n w = bit_xor (bit_xor (bit_xor (product k (slice_index w 0)) (product l (slice_index w 1))) (product m (slice_index w 2))) (product n (slice_index w 3))
 
+-- a column times the matrix whose first row has the factors fs; each row after it is the one before turned right by one place
+unfoldable pub mixed_by : List ℕ → List ℕ → List ℕ
+mixed_by fs w =
+    row (slice_index fs 0) (slice_index fs 1) (slice_index fs 2) (slice_index fs 3) w
+    ∷ row (slice_index fs 3) (slice_index fs 0) (slice_index fs 1) (slice_index fs 2) w
+    ∷ row (slice_index fs 2) (slice_index fs 3) (slice_index fs 0) (slice_index fs 1) w
+    ∷ row (slice_index fs 1) (slice_index fs 2) (slice_index fs 3) (slice_index fs 0) w ∷ []
+
 -- a column times a matrix
 unfoldable pub mix_column : List ℕ → List ℕ
 mix_column w = row 2 3 1 1 w ∷ row 1 2 3 1 w ∷ row 1 1 2 3 w ∷ row 3 1 1 2 w ∷ []

@@ -1,13 +1,15 @@
--- One round more, in loops over the round keys.
-use Rattle.std.specs.Prelude.{◌≡◌, ℕ, suc, ◌+◌, ◌-◌, ◌<◌, ◌≤◌, List, [], ◌∷◌, length, take, drop, slice_index, refl}
+-- Rounds over the round keys, and one step more of the key schedule.
+use Rattle.std.specs.Prelude.{◌≡◌, ℕ, suc, ◌+◌, ◌-◌, ◌<◌, ◌≤◌, List, [], ◌∷◌, reverse, length, take, drop, fold, slice_index, refl}
 use Rattle.std.proofs.Common.{sym, ap, ◌∙◌, add-one, arith, drop-cons}
-use Rattle.std.proofs.lemmas.List.Sums.{fold_more}
+use Rattle.std.proofs.lemmas.List.{reverse-append}
+use Rattle.std.proofs.lemmas.List.Sums.{fold_more, fold_push}
 use Rattle.std.proofs.lemmas.List.FromFn.{fill_by_all}
 use Rattle.ciphers.specs.Speck.{round, unround, rounds, unrounds, scheduled, words_of, round_keys}
 
 pub pair : (a b c d : ℕ) → a ≡ c → b ≡ d → ◌≡◌ {A = ℕ × ℕ} (a, b) (c, d)
 pair a b c d p q = λ i. (p i, q i)
 
+-- one round more, in a loop over the round keys
 pub rounds_none : (s : ℕ × ℕ) → s ≡ rounds s []
 unfolding rounds
 rounds_none s = refl
@@ -30,6 +32,13 @@ unrounds_more s t u ks n pos h inv e =
     let m : suc (n - 1) ≡ n = omega arith in
     e ∙ ap (λ (x : ℕ × ℕ). unround x (slice_index ks (n - 1))) inv
     ∙ sym (ap (unrounds s) (drop-cons ks (n - 1) 0 g) ∙ unrounds_cons s (slice_index ks (n - 1)) (drop (suc (n - 1)) ks) ∙ ap (λ (z : ℕ). unround (unrounds s (drop z ks)) (slice_index ks (n - 1))) m)
+
+-- going back is going through the keys in reverse
+pub unrounds_reversed : (s : ℕ × ℕ) (ks : List ℕ) → unrounds s ks ≡ fold unround s (reverse ks)
+unfolding unrounds
+unrounds_reversed s [] = refl
+unrounds_reversed s (k ∷ ks) =
+    ap (λ (t : ℕ × ℕ). unround t k) (unrounds_reversed s ks) ∙ sym (fold_push unround s (reverse ks) k) ∙ ap (fold unround s) (sym (reverse-append (k ∷ []) ks))
 
 pub scheduled_none : (s : ℕ × ℕ) → s ≡ scheduled s 0
 unfolding scheduled

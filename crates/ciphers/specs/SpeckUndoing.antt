@@ -184,7 +184,7 @@ unfolding speck_back
 behind k b = block_of_lem _
 
 -- the two halves of a block, written one after the other
-halves : (b x y : List ℕ) (s : ℕ × ℕ) → length b ≡ 16 → x ≡ bytes 8 s.1 → y ≡ bytes 8 s.0 → put_mid 8 8 (x ++ post_of 0 8 b) y ≡ block_of s
+pub halves : (b x y : List ℕ) (s : ℕ × ℕ) → length b ≡ 16 → x ≡ bytes 8 s.1 → y ≡ bytes 8 s.0 → put_mid 8 8 (x ++ post_of 0 8 b) y ≡ block_of s
 unfolding block_of
 halves b x y s l e f =
     let lx : length x ≡ 8 = ap length e ∙ bytes_long 8 s.1 in

@@ -69,15 +69,25 @@ impl BlockCipher for Aes128 {
     }
 
     fn encrypt(&self, block: &mut [u8]) {
-        encrypt_block(&self.schedule, block);
+        let turned = encrypt_block(&self.schedule, read_block(block));
+        block.copy_from_slice(&turned);
     }
 
     fn decrypt(&self, block: &mut [u8]) {
-        decrypt_block(&self.schedule, block);
+        let turned = decrypt_block(&self.schedule, read_block(block));
+        block.copy_from_slice(&turned);
     }
 }
 
-// The laws that AES rests on, of the byte field, of the tables and of the mixing step.
+// A block as an array, from the slice that the trait's calls take.
+fn read_block(block: &[u8]) -> [u8; 16]
+    requires { length block.now ≡ 16 }
+    ensures { result ≡ block.now }
+{
+    *block.as_array().unwrap()
+}
+
+// The laws that AES rests on, of the byte field, of the tables and of the mixing step; its answer says nothing more.
 pub fn aes_laws() -> usize
     ensures { (result ≡ 0) × (AesLaws) }
 {

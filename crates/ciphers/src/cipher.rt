@@ -25,7 +25,7 @@ pub trait BlockCipher: Sized {
     // the key of a cipher
     ghost key_of: { Self → List ℕ };
 
-    // KEY_LEN, as a value that contracts can speak of.
+    // KEY_LEN, as a value that contracts can speak of; each cipher says it for itself, as a constant is named by its own type alone.
     fn stated_key_len() -> usize
         ensures { result ≡ key_length };
 
@@ -33,7 +33,7 @@ pub trait BlockCipher: Sized {
     fn new(key: &[u8]) -> Result<Self, Refusal>
         ensures { Keyed key_length key_of key.now result };
 
-    // Turns a block forward where it lies.
+    // Turns a block forward where it lies: a slice with a clause, since parts of a message are lent on as slices.
     fn encrypt(&self, block: &mut [u8])
         requires { length block.old ≡ 16 }
         ensures { block.new ≡ forward (key_of self.now) block.old };

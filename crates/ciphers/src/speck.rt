@@ -1,68 +1,75 @@
 // Speck128/128, as its designers define it.
 ghost use Rattle.std.specs.Prelude.{◌≡◌, length};
 ghost use Rattle.base.specs.Bytes.{AllBytes};
-ghost use Rattle.base.specs.Numbers.{number, bytes};
-ghost use Rattle.ciphers.specs.Speck.{round as round_of, unround as unround_of, rounds, unrounds, round_keys, speck_forward, speck_back};
+ghost use Rattle.base.specs.Numbers.{number};
+ghost use Rattle.ciphers.specs.Speck.{round as round_of, unround as unround_of, rounds, unrounds, words_of, block_of, round_keys, speck_forward, speck_back};
 ghost use Rattle.ciphers.specs.SpeckUndoing;
 ghost use Rattle.std.proofs.Common.{rules, arith};
 
 use crate::cipher::BlockCipher;
 use base::Refusal;
 
-// One round on the words (a, b) with a round key.
-fn round(a: u64, b: u64, key: u64) -> (u64, u64)
-    ensures { result ≡ round_of (a, b) key }
+// The words (a, b) of a block, or (m, k) of a key, which go through a round together: a pair, as the definitions have it.
+type Words = (u64, u64);
+
+// One round with a round key.
+fn round(words: Words, key: u64) -> Words
+    ensures { result ≡ round_of words key }
 {
+    let (a, b) = words;
     let new_a = a.rotate_right(8).wrapping_add(b) ^ key;
     (new_a, b.rotate_left(3) ^ new_a)
 }
 
 // A round undone.
-fn unround(a: u64, b: u64, key: u64) -> (u64, u64)
-    ensures { result ≡ unround_of (a, b) key }
+fn unround(words: Words, key: u64) -> Words
+    ensures { result ≡ unround_of words key }
 {
+    let (a, b) = words;
     let old_b = (b ^ a).rotate_right(3);
     ((a ^ key).wrapping_sub(old_b).rotate_left(8), old_b)
 }
 
 // A round for each key, in their order.
-fn rounds_forward(keys: &[u64], a: u64, b: u64) -> (u64, u64)
-    ensures { result ≡ rounds (a, b) keys.now }
+fn rounds_forward(keys: &[u64], words: Words) -> Words
+    ensures { result ≡ rounds words keys.now }
 {
-    let mut words = (a, b);
-    for key in keys {
-        words = round(words.0, words.1, *key);
-    }
-    words
+    keys.iter().fold(words, |words, key| round(words, *key))
 }
 
 // The rounds undone, from the last key to the first.
-fn rounds_back(keys: &[u64], a: u64, b: u64) -> (u64, u64)
-    ensures { result ≡ unrounds (a, b) keys.now }
+fn rounds_back(keys: &[u64], words: Words) -> Words
+    ensures { result ≡ unrounds words keys.now }
 {
-    let mut words = (a, b);
-    for i in (0..keys.len()).rev() {
-        words = unround(words.0, words.1, keys[i]);
-    }
-    words
+    keys.iter()
+        .rev()
+        .fold(words, |words, key| unround(words, *key))
 }
 
 // Eight bytes as a word, the lowest first.
-fn read_word(s: &[u8]) -> u64
-    requires { length s.now ≡ 8 }
-    ensures { result ≡ number s.now }
+fn read_word(bytes: &[u8]) -> u64
+    requires { length bytes.now ≡ 8 }
+    ensures { result ≡ number bytes.now }
 {
-    let mut word = [0u8; 8];
-    word.copy_from_slice(s);
-    u64::from_le_bytes(word)
+    u64::from_le_bytes(*bytes.as_array().unwrap())
 }
 
-// A word into eight bytes, the lowest first.
-fn write_word(s: &mut [u8], word: u64)
-    requires { length s.old ≡ 8 }
-    ensures { s.new ≡ bytes 8 word }
+// The words of sixteen bytes.
+fn read_words(bytes: &[u8]) -> Words
+    requires { length bytes.now ≡ 16 }
+    ensures { result ≡ words_of bytes.now }
 {
-    s.copy_from_slice(&word.to_le_bytes());
+    (read_word(&bytes[8..16]), read_word(&bytes[0..8]))
+}
+
+// The words into sixteen bytes.
+fn write_words(words: Words, bytes: &mut [u8])
+    requires { length bytes.old ≡ 16 }
+    ensures { bytes.new ≡ block_of words }
+{
+    let (a, b) = words;
+    bytes[0..8].copy_from_slice(&b.to_le_bytes());
+    bytes[8..16].copy_from_slice(&a.to_le_bytes());
 }
 
 // The key schedule: each round key is the word k, and a step is a round on (m, k).
@@ -71,10 +78,10 @@ fn round_keys(key: &[u8]) -> [u64; 32]
     ensures { result ≡ round_keys key.now }
 {
     let mut keys = [0u64; 32];
-    let mut words = (read_word(&key[8..16]), read_word(&key[0..8]));
-    for i in 0..32 {
-        keys[i] = words.1;
-        words = round(words.0, words.1, i as u64);
+    let mut words = read_words(key);
+    for (i, round_key) in keys.iter_mut().enumerate() {
+        *round_key = words.1;
+        words = round(words, i as u64);
     }
     keys
 }
@@ -84,7 +91,9 @@ fn round_keys(key: &[u8]) -> [u64; 32]
 pub struct Speck128 {
     key: [u8; 16],
     keys: [u64; 32],
-    ghost made: { (length key ≡ 16) × AllBytes key × (keys ≡ round_keys key) },
+    ghost long: { length key ≡ 16 },
+    ghost fit: { AllBytes key },
+    ghost made: { keys ≡ round_keys key },
 }
 
 impl BlockCipher for Speck128 {
@@ -124,24 +133,15 @@ impl BlockCipher for Speck128 {
             return Err(Refusal::WrongKeyLength);
         }
         let keys = round_keys(key);
-        let mut kept = [0u8; 16];
-        kept.copy_from_slice(key);
-        Ok(Speck128 { key: kept, keys })
+        let key = *key.as_array().unwrap();
+        Ok(Speck128 { key, keys })
     }
 
     fn encrypt(&self, block: &mut [u8]) {
-        let b = read_word(&block[0..8]);
-        let a = read_word(&block[8..16]);
-        let (a, b) = rounds_forward(&self.keys, a, b);
-        write_word(&mut block[0..8], b);
-        write_word(&mut block[8..16], a);
+        write_words(rounds_forward(&self.keys, read_words(block)), block);
     }
 
     fn decrypt(&self, block: &mut [u8]) {
-        let b = read_word(&block[0..8]);
-        let a = read_word(&block[8..16]);
-        let (a, b) = rounds_back(&self.keys, a, b);
-        write_word(&mut block[0..8], b);
-        write_word(&mut block[8..16], a);
+        write_words(rounds_back(&self.keys, read_words(block)), block);
     }
 }

@@ -1,5 +1,6 @@
 #![tactic(auto)]
-// The mode and CMAC for programs in C and Rust. Each call answers 0, or the number of a refusal.
+// The mode and CMAC for programs in C and Rust. Each call answers 0, or the number of a refusal, and stands once for each
+// cipher: C has neither Result nor generic functions.
 // The header is include/vanhseak.h.
 ghost use Rattle.std.specs.Prelude.{◌≡◌};
 ghost use Rattle.ciphers.specs.Aes.{forward as aes_forward, back as aes_back};
@@ -7,8 +8,8 @@ ghost use Rattle.ciphers.specs.Speck.{speck_forward, speck_back};
 ghost use Rattle.ffi.specs.Statuses.{status_of, answer as answer_of, proof_answer, after_seal, after_open, after_seal_with_proof, after_open_with_proof, cmac_answer, after_cmac};
 
 use base::Refusal;
-use ciphers::{Aes128, BlockCipher, Speck128};
-use mode::{cmac, open, open_with_proof, seal, seal_with_proof};
+use ciphers::{Aes128, Speck128};
+use mode::{cmac_under_key, open, open_with_proof, seal, seal_with_proof};
 
 // 0 where a call was accepted, and else the number of its refusal.
 fn status(answer: Result<usize, Refusal>) -> usize
@@ -18,19 +19,6 @@ fn status(answer: Result<usize, Refusal>) -> usize
         Ok(_) => 0,
         Err(why) => why.number(),
     }
-}
-
-// The CMAC of a message under a key, into `code`.
-fn authenticate<C: BlockCipher + Drop>(
-    key: &[u8],
-    message: &[u8],
-    code: &mut [u8; 16],
-) -> Result<usize, Refusal>
-    ensures answer { result ≡ cmac_answer C.BlockCipher.key_length key.now message.now }
-    ensures after { code.new ≡ after_cmac C.BlockCipher.forward C.BlockCipher.key_length key.now message.now code.old }
-{
-    let cipher = C::new(key)?;
-    cmac(&cipher, message, code)
 }
 
 #[unsafe(no_mangle)]
@@ -142,7 +130,7 @@ pub extern "C" fn vanhseak_aes128_cmac(key: &[u8], message: &[u8], code: &mut [u
     ensures answer { result ≡ status_of (cmac_answer 16 key.now message.now) }
     ensures after { code.new ≡ after_cmac (aes_forward 4) 16 key.now message.now code.old }
 {
-    status(authenticate::<Aes128>(key, message, code))
+    status(cmac_under_key::<Aes128>(key, message, code))
 }
 
 #[unsafe(no_mangle)]
@@ -150,5 +138,5 @@ pub extern "C" fn vanhseak_speck128_cmac(key: &[u8], message: &[u8], code: &mut 
     ensures answer { result ≡ status_of (cmac_answer 16 key.now message.now) }
     ensures after { code.new ≡ after_cmac speck_forward 16 key.now message.now code.old }
 {
-    status(authenticate::<Speck128>(key, message, code))
+    status(cmac_under_key::<Speck128>(key, message, code))
 }

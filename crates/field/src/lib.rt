@@ -1,6 +1,6 @@
 #![tactic(auto)]
 // The field of 2^128 elements, each a number whose bit i is the coefficient of z^i.
-ghost use Rattle.std.specs.Prelude.{◌≡◌, length};
+ghost use Rattle.std.specs.Prelude.{◌≡◌};
 ghost use Rattle.base.specs.Numbers.{number};
 ghost use Rattle.field.specs.Field.{field_product, times_z, FieldLaws};
 
@@ -29,6 +29,7 @@ pub fn product(a: u128, b: u128) -> u128
     let mut rest = a;
     let mut multiple = b;
     let mut sum = 0u128;
+    // once for each bit: a fold would carry the same three values
     for _bit in 0..128u32 {
         if rest % 2 == 1 {
             sum ^= multiple;
@@ -40,13 +41,10 @@ pub fn product(a: u128, b: u128) -> u128
 }
 
 // The element that a block stands for, its lowest byte first.
-pub fn element(block: &[u8]) -> u128
-    requires { length block.now ≡ 16 }
+pub fn element(block: &[u8; 16]) -> u128
     ensures { result ≡ number block.now }
 {
-    let mut bytes = [0u8; 16];
-    bytes.copy_from_slice(block);
-    u128::from_le_bytes(bytes)
+    u128::from_le_bytes(*block)
 }
 
 // The laws of the field are what it promises; its answer says nothing more.

@@ -15,8 +15,11 @@ unfolding doubled
 doubled_bytes b = reverse_bytes (bytes 16 _) (bytes_fit 16 _)
 
 -- a block with bytes added is a block
-front_block : (b ys : List ℕ) → Block b → AllBytes ys → Block (xor_front b ys)
+pub front_block : (b ys : List ℕ) → Block b → AllBytes ys → Block (xor_front b ys)
 front_block b ys h k = record { long = front_long b ys ∙ h.long; fit = front_bytes b ys h.fit k }
+
+pub zero_block : Block (zeros 16)
+zero_block = record { long = zeros_long 16; fit = zeros_bytes 16 }
 
 padded_bytes : (t : List ℕ) → AllBytes t → AllBytes (zero_padded t)
 padded_bytes t h = append_bytes t (zeros ((16 - length t % 16) % 16)) h (zeros_bytes ((16 - length t % 16) % 16))
@@ -25,15 +28,25 @@ cond_bytes : (t : Bool) (xs ys : List ℕ) → AllBytes xs → AllBytes ys → A
 cond_bytes true xs ys h k = h
 cond_bytes false xs ys h k = k
 
+-- what a message is bound to is bytes
+pub input_bytes : (nonce ad : List ℕ) (l : ℕ) → AllBytes nonce → AllBytes ad → AllBytes (binding_input nonce ad l)
+unfolding binding_input length_group
+input_bytes nonce ad l hn ha =
+    let n : ℕ = length nonce in
+    let a : ℕ = length ad in
+    append_bytes (zero_padded nonce) _ (padded_bytes nonce hn)
+    (append_bytes (zero_padded ad) _ (padded_bytes ad ha)
+    (padded_bytes (bytes 4 n ++ (bytes 4 a ++ bytes 4 l)) (append_bytes (bytes 4 n) (bytes 4 a ++ bytes 4 l) (bytes_fit 4 n) (append_bytes (bytes 4 a) (bytes 4 l) (bytes_fit 4 a) (bytes_fit 4 l)))))
+
 module _ (f : List ℕ → List ℕ) (hf : OnBlocks f) where
-  masked_bytes : (l : List ℕ) → AllBytes l → AllBytes (last_masked f l)
+  pub masked_bytes : (l : List ℕ) → AllBytes l → AllBytes (last_masked f l)
   masked_bytes l h =
       cond_bytes (eqb (length l) 16) (xor_front l (first_subkey f)) (xor_front (ended_by 0x80 l) (second_subkey f))
       (front_bytes l (first_subkey f) h (doubled_bytes (f (zeros 16))))
       (front_bytes (ended_by 0x80 l) (second_subkey f)
       (append_bytes l (0x80 ∷ zeros (15 - length l)) h (cons_bytes 0x80 (zeros (15 - length l)) (omega arith) (zeros_bytes (15 - length l)))) (doubled_bytes (first_subkey f)))
 
-  chained_block : (s : List ℕ) (n : ℕ) (m : List ℕ) → Block s → AllBytes m → Block (chained f s n m)
+  pub chained_block : (s : List ℕ) (n : ℕ) (m : List ℕ) → Block s → AllBytes m → Block (chained f s n m)
   unfolding chained
   chained_block s zero m hs hm = hs
   chained_block s (suc n) m hs hm = hf _ (front_block (chained f s n m) (block_at n m) (chained_block s n m hs hm) (take_bytes 16 (drop (n * 16) m) (drop_bytes (n * 16) m hm)))
@@ -42,17 +55,8 @@ module _ (f : List ℕ → List ℕ) (hf : OnBlocks f) where
   unfolding cmac_of
   cmac_block m h =
       hf _ (front_block (chained f (zeros 16) (blocks_before m) m) (last_masked f (drop (blocks_before m * 16) m))
-      (chained_block (zeros 16) (blocks_before m) m (record { long = zeros_long 16; fit = zeros_bytes 16 }) h)
+      (chained_block (zeros 16) (blocks_before m) m zero_block h)
       (masked_bytes (drop (blocks_before m * 16) m) (drop_bytes (blocks_before m * 16) m h)))
-
-  input_bytes : (nonce ad : List ℕ) (l : ℕ) → AllBytes nonce → AllBytes ad → AllBytes (binding_input nonce ad l)
-  unfolding binding_input length_group
-  input_bytes nonce ad l hn ha =
-      let n : ℕ = length nonce in
-      let a : ℕ = length ad in
-      append_bytes (zero_padded nonce) _ (padded_bytes nonce hn)
-      (append_bytes (zero_padded ad) _ (padded_bytes ad ha)
-      (padded_bytes (bytes 4 n ++ (bytes 4 a ++ bytes 4 l)) (append_bytes (bytes 4 n) (bytes 4 a ++ bytes 4 l) (bytes_fit 4 n) (append_bytes (bytes 4 a) (bytes 4 l) (bytes_fit 4 a) (bytes_fit 4 l)))))
 
   pub one_lt : (nonce ad : List ℕ) (l : ℕ) → AllBytes nonce → AllBytes ad → beta_one f nonce ad l < 2 ^ 128
   unfolding beta_one

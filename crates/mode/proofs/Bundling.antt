@@ -1,5 +1,5 @@
 -- A bundle taken apart, and put together from its parts.
-use Rattle.std.proofs.Common.{◌≡◌, ℕ, ◌+◌, ◌*◌, ◌^◌, ◌<◌, List, ◌++◌, length, take, drop, sym, ap, ◌∙◌, arith, length-append, length-take}
+use Rattle.std.proofs.Common.{◌≡◌, ℕ, ◌+◌, ◌*◌, ◌^◌, ◌<◌, ◌≤◌, List, ◌++◌, length, take, drop, sym, ap, ◌∙◌, arith, length-append, length-take}
 use Rattle.std.proofs.lemmas.List.{take_at, drop_at, take_all, drop-drop, take-append-drop}
 use Rattle.base.specs.Bytes.{AllBytes}
 use Rattle.base.specs.Numbers.{number, bytes}
@@ -39,12 +39,12 @@ module _ (tau n : ℕ) (a b : List ℕ) (ht : tau < 2 ^ 128) (ha : length a ≡ 
       ∙ ap (λ (k : List ℕ). opened (forward a) (back k) (tau_of (bytes 16 tau ++ (a ++ b))) nonce ad m) blk_is
       ∙ ap (λ (t : ℕ). opened (forward a) (back b) t nonce ad m) tau_is)
 
--- a bundle is put together from its parts
-pub bundle_again : (bundle : List ℕ) (n : ℕ) → AllBytes bundle → length bundle ≡ 16 + 2 * n → bytes 16 (number (take 16 bundle)) ++ (take n (drop 16 bundle) ++ drop (16 + n) bundle) ≡ bundle
-bundle_again bundle n h l =
-    ap (λ (z : List ℕ). z ++ (take n (drop 16 bundle) ++ drop (16 + n) bundle)) (bytes_number 16 (take 16 bundle) (length-take 16 bundle ∙ omega arith) (take_bytes 16 bundle h))
-    ∙ ap (λ (z : List ℕ). take 16 bundle ++ (take n (drop 16 bundle) ++ z)) (ap (λ (k : ℕ). drop k bundle) (omega arith) ∙ sym (drop-drop n 16 bundle))
-    ∙ ap (λ (z : List ℕ). take 16 bundle ++ z) (take-append-drop n (drop 16 bundle))
+-- a bundle is put together from its parts, tau and the two keys
+pub bundle_again : (bundle tau keys : List ℕ) → AllBytes bundle → 16 ≤ length bundle → tau ≡ take 16 bundle → keys ≡ drop 16 bundle → bytes 16 (number tau) ++ keys ≡ bundle
+bundle_again bundle tau keys h l et ek =
+    ap (λ (z : List ℕ). bytes 16 (number z) ++ keys) et
+    ∙ ap (λ (z : List ℕ). z ++ keys) (bytes_number 16 (take 16 bundle) (length-take 16 bundle ∙ omega arith) (take_bytes 16 bundle h))
+    ∙ ap (λ (z : List ℕ). take 16 bundle ++ z) ek
     ∙ take-append-drop 16 bundle
 
 -- and what is put together so is as long as a bundle

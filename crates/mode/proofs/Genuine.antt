@@ -1,7 +1,7 @@
 -- Spare bytes made zero in place.
-use Rattle.std.proofs.Common.{◌≡◌, ℕ, ◌-◌, ◌≤◌, true, List, [], ◌++◌, length, take, drop, ap, ◌∙◌, arith, length-append, length-drop, length-take}
+use Rattle.std.proofs.Common.{◌≡◌, ℕ, ◌-◌, ◌≤◌, Bool, true, List, [], ◌++◌, length, take, drop, sym, ap, ◌∙◌, arith, length-append, length-drop, length-take}
 use borrow.Rule.Slice.PartMut.{put_mid}
-use Rattle.std.proofs.lemmas.List.{drop_at, drop-drop, drop_all, append-nil}
+use Rattle.std.proofs.lemmas.List.{take_rest, drop_at, drop-drop, drop_all, append-nil}
 use Rattle.base.specs.Bytes.{zeros, all_zero}
 use Rattle.base.specs.Blocks.{Message}
 use Rattle.base.proofs.Strings.{zeros_long, zeros_bytes, take_bytes, append_bytes}
@@ -32,3 +32,7 @@ wiped_spare m new h e =
     let z : drop (length m - (length m - 16)) (drop (length m - 16) m) ≡ [] = drop-drop (length m - (length m - 16)) (length m - 16) m ∙ drop_all _ m (omega arith) in
     ap (λ (q : List ℕ). take (length m - 16) m ++ (new ++ q)) z
     ∙ ap (λ (q : List ℕ). take (length m - 16) m ++ q) (append-nil new ∙ e ∙ ap zeros k)
+
+-- what the test of the last sixteen bytes says of an opened message
+pub spare_tested : (m last : List ℕ) (t : Bool) → last ≡ m → t ≡ all_zero (take (length last - (length last - 16)) (drop (length last - 16) last)) → genuine m ≡ t
+spare_tested m last t e h = sym (h ∙ ap all_zero (take_rest last (length last - 16)) ∙ ap genuine e)

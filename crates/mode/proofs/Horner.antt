@@ -94,10 +94,6 @@ module _ (tau : ℕ) (ht : tau < 2 ^ 128) (F : ℕ → ℕ) where
       step : (i : ℕ) → i < n → suc (n - i) ≡ n + 1 - i
       step i l = omega arith
 
-  pub weighed_none : 0 ≡ weighed tau F 0
-  unfolding sum_to
-  weighed_none = refl
-
   pub weighed_more : (n sum x r : ℕ) → ((i : ℕ) → i < n + 1 → F i < 2 ^ 128) → sum ≡ weighed tau F n → x ≡ F n → r ≡ field_product tau (bit_xor sum x) → r ≡ weighed tau F (n + 1)
   weighed_more n sum x r h e f g =
       let one : n + 1 - n ≡ 1 = omega arith in

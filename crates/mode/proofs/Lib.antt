@@ -1,3 +1,4 @@
+mod Chunks
 mod Horner
 mod Undoing
 mod Ciphering
@@ -10,3 +11,4 @@ mod Binding
 mod Lawful
 mod Genuine
 mod Alike
+mod Bound

@@ -1,7 +1,7 @@
 -- The steps of enciphering in place, and of its undoing.
 use Rattle.std.proofs.Common.{◌≡◌, ℕ, ◌+◌, ◌-◌, ◌*◌, ◌/◌, ◌%◌, ◌<◌, ◌≤◌, List, [], ◌∷◌, ◌++◌, length, take, drop, sym, refl, ap, ◌∙◌, subst, arith, length-append, length-drop}
 use borrow.Rule.Slice.PartMut.{put_mid}
-use Rattle.std.proofs.lemmas.List.{append_assoc, take_at, take_rest, drop_all, append-nil, drop-drop}
+use Rattle.std.proofs.lemmas.List.{append_assoc, take_at, take_rest, drop-take}
 use Rattle.base.specs.Bytes.{Block, xor_front}
 use Rattle.base.specs.Blocks.{Message, block_at, last_index, tail_of, blocks_joined, assembled, with_block}
 use Rattle.base.proofs.Strings.{front_long}
@@ -35,18 +35,16 @@ all_is f m h =
     ∙ ap (λ (z : List ℕ). z ++ tail_of m) (joined_more (λ i. f (block_at i m)) (last_index m))
     ∙ append_assoc (blocks_joined (λ i. f (block_at i m)) (last_index m)) (f (block_at (last_index m) m)) (tail_of m)
 
--- what the code writes over the tail
-pub mixed_in : (m new l : List ℕ) → 16 ≤ length m → l ≡ block_at (last_index m) m → new ≡ xor_front (take (length m - (last_index m * 16 + 16)) (drop (last_index m * 16 + 16) m)) l →
-    put_mid (last_index m * 16 + 16) (length m - (last_index m * 16 + 16)) m new ≡ tail_mixed m
-mixed_in m new l h e f =
-    let k : last_index m * 16 + 16 ≡ length m / 16 * 16 = omega arith in
-    let t : take (length m - (last_index m * 16 + 16)) (drop (last_index m * 16 + 16) m) ≡ tail_of m = take_rest m (last_index m * 16 + 16) ∙ ap (λ (j : ℕ). drop j m) k in
-    let n : new ≡ xor_front (tail_of m) (block_at (last_index m) m) =
-    f ∙ ap (λ (z : List ℕ). xor_front z l) t ∙ ap (xor_front (tail_of m)) e in
-    let z : drop (length m - (last_index m * 16 + 16)) (drop (last_index m * 16 + 16) m) ≡ [] = drop-drop (length m - (last_index m * 16 + 16)) (last_index m * 16 + 16) m ∙ drop_all _ m (omega arith) in
-    ap (λ (q : List ℕ). take (last_index m * 16 + 16) m ++ (new ++ q)) z
-    ∙ ap (λ (q : List ℕ). take (last_index m * 16 + 16) m ++ q) (append-nil new ∙ n)
-    ∙ ap (λ (j : ℕ). take j m ++ xor_front (tail_of m) (block_at (last_index m) m)) k
+-- the last whole block, read behind the others
+pub last_read : (m : List ℕ) → 16 ≤ length m →
+    take (length (take (length m / 16 * 16) m) - (length m / 16 * 16 - 16)) (drop (length m / 16 * 16 - 16) (take (length m / 16 * 16) m)) ≡ block_at (last_index m) m
+last_read m h =
+    let k : length m / 16 * 16 ≡ last_index m * 16 + 16 = omega arith in
+    let n : last_index m * 16 + 16 - 16 ≡ last_index m * 16 = omega arith in
+    take_rest (take (length m / 16 * 16) m) (length m / 16 * 16 - 16)
+    ∙ ap (λ (j : ℕ). drop (j - 16) (take j m)) k
+    ∙ ap (λ (j : ℕ). drop j (take (last_index m * 16 + 16) m)) n
+    ∙ drop-take (last_index m * 16) 16 m
 
 mixed_is : (m : List ℕ) (F : ℕ → List ℕ) (n : ℕ) (l t : List ℕ) → m ≡ assembled F n l t → ((i : ℕ) → i < n → length (F i) ≡ 16) → length l ≡ 16 → length t < 16 → tail_mixed m ≡ assembled F n l (xor_front t l)
 mixed_is m F n l t e hF hl ht =

@@ -1,7 +1,7 @@
 -- The limits of the calls, what they answer, and what they leave in the memory they work on.
 use Rattle.std.specs.Prelude.{ℕ, ◌+◌, ◌-◌, ◌*◌, Bool, true, false, cond, not, ◌||◌, List, [], ◌∷◌, ◌++◌, length, take, drop, Ok, Err, Result, ◌==◌, nat_lt}
 use Rattle.base.specs.declared.refusals.Refusal.{Refusal}
-use Rattle.base.specs.declared.refusals.Refusal.TheVariants.{BadDimensions, MalformedMemory, WrongKeyLength, ContextTooLong, NoSuchSlot, WrongLength, EmptySlot, BufferTooShort, NoRoom, NotGenuine}
+use Rattle.base.specs.declared.refusals.Refusal.TheVariants.{WrongKeyLength, ContextTooLong, WrongLength, NotGenuine}
 use Rattle.base.specs.Refusals.{Check}
 use Rattle.base.specs.Bytes.{zeros, all_zero}
 
@@ -57,6 +57,11 @@ proof_checks m = (not (genuine m), NotGenuine) ∷ []
 abbrev pub spare_zeroed : List ℕ → List ℕ
 spare_zeroed m = take (length m - 16) m ++ zeros 16
 
+-- what a call answers, with 0 in the place of what it made
+abbrev pub outcome : {A : Type 0} → Result A Refusal → Result ℕ Refusal
+outcome (Ok made) = Ok 0
+outcome (Err why) = Err why
+
 -- what a call leaves: `done` where it was accepted, and where it was declined what it found
 abbrev pub if_accepted : {A : Type 0} → Result A Refusal → List ℕ → List ℕ → List ℕ
 if_accepted (Ok answer) done found = done
@@ -64,16 +69,8 @@ if_accepted (Err why) done found = found
 
 -- whether a refusal is NotGenuine
 abbrev pub is_not_genuine : Refusal → Bool
-is_not_genuine BadDimensions = false
-is_not_genuine MalformedMemory = false
-is_not_genuine WrongKeyLength = false
-is_not_genuine ContextTooLong = false
-is_not_genuine NoSuchSlot = false
-is_not_genuine WrongLength = false
-is_not_genuine EmptySlot = false
-is_not_genuine BufferTooShort = false
-is_not_genuine NoRoom = false
 is_not_genuine NotGenuine = true
+is_not_genuine _ = false
 
 -- what opening with proof leaves: as above, but zeros where the opened message is not genuine
 abbrev pub if_genuine : Result ℕ Refusal → List ℕ → List ℕ → List ℕ

@@ -1,8 +1,8 @@
 -- CMAC as in NIST SP 800-38B, over a function f from blocks to blocks.
-use Rattle.std.specs.Prelude.{ℕ, zero, suc, ◌-◌, ◌*◌, ◌/◌, cond, List, reverse, length, drop, ◌==◌}
+use Rattle.std.specs.Prelude.{ℕ, zero, suc, ◌+◌, ◌-◌, ◌*◌, ◌/◌, cond, List, reverse, length, drop, ◌==◌}
 use Rattle.base.specs.Bytes.{xor_front, zeros}
 use Rattle.base.specs.Numbers.{number, bytes}
-use Rattle.base.specs.Blocks.{block_at, ended_by}
+use Rattle.base.specs.Blocks.{block_at, zero_padded, ended_by}
 use Rattle.field.specs.Field.{times_z}
 
 -- CMAC's doubling: a block read highest bit first goes one place up, and where a bit falls out 87 (hex) is added
@@ -21,6 +21,10 @@ second_subkey f = doubled (first_subkey f)
 unfoldable pub chained : (List ℕ → List ℕ) → List ℕ → ℕ → List ℕ → List ℕ
 chained f s zero m = s
 chained f s (suc n) m = f (xor_front (chained f s n m) (block_at n m))
+
+-- the state s after the whole of t, with zeros up to whole blocks
+abbrev pub absorbed : (List ℕ → List ℕ) → List ℕ → List ℕ → List ℕ
+absorbed f s t = chained f s ((length t + 15) / 16) (zero_padded t)
 
 -- how many blocks stand before the last one, which may be short, and is empty only where all of m is
 abbrev pub blocks_before : List ℕ → ℕ

@@ -1,4 +1,5 @@
-// Sealing and opening under a bundle, in one call each.
+// Sealing and opening under a bundle, in one call each. Four calls of one shape, since each has a
+// contract of its own; the answers are those of `Keys`.
 ghost use Rattle.std.specs.Prelude.{◌≡◌, ◌-◌, ◌++◌, length, Ok, OnOk};
 ghost use Rattle.base.specs.Refusals.{decided};
 ghost use Rattle.mode.specs.Bundles.{sealed_under, opened_under};
@@ -19,8 +20,7 @@ pub fn seal<C: BlockCipher + Drop>(
     ensures after { message.new ≡ if_accepted result (sealed_under C.BlockCipher.forward C.BlockCipher.key_length bundle.now nonce.now ad.now message.old) message.old }
     ensures back { OnOk result (opened_under C.BlockCipher.forward C.BlockCipher.back C.BlockCipher.key_length bundle.now nonce.now ad.now message.new ≡ message.old) }
 {
-    let keys: Keys<C> = Keys::from_bundle(bundle)?;
-    keys.seal(nonce, ad, message)
+    Keys::<C>::from_bundle(bundle)?.seal(nonce, ad, message)
 }
 
 // Opens a message under a bundle, and sealing it gives it back.
@@ -34,8 +34,7 @@ pub fn open<C: BlockCipher + Drop>(
     ensures after { message.new ≡ if_accepted result (opened_under C.BlockCipher.forward C.BlockCipher.back C.BlockCipher.key_length bundle.now nonce.now ad.now message.old) message.old }
     ensures back { OnOk result (sealed_under C.BlockCipher.forward C.BlockCipher.key_length bundle.now nonce.now ad.now message.new ≡ message.old) }
 {
-    let keys: Keys<C> = Keys::from_bundle(bundle)?;
-    keys.open(nonce, ad, message)
+    Keys::<C>::from_bundle(bundle)?.open(nonce, ad, message)
 }
 
 // Seals a message that ends in sixteen spare bytes, which are made zero first.
@@ -49,8 +48,7 @@ pub fn seal_with_proof<C: BlockCipher + Drop>(
     ensures after { message.new ≡ if_accepted result (sealed_under C.BlockCipher.forward C.BlockCipher.key_length bundle.now nonce.now ad.now (spare_zeroed message.old)) message.old }
     ensures back { OnOk result (opened_under C.BlockCipher.forward C.BlockCipher.back C.BlockCipher.key_length bundle.now nonce.now ad.now message.new ≡ spare_zeroed message.old) }
 {
-    let keys: Keys<C> = Keys::from_bundle(bundle)?;
-    keys.seal_with_proof(nonce, ad, message)
+    Keys::<C>::from_bundle(bundle)?.seal_with_proof(nonce, ad, message)
 }
 
 // Opens a message sealed with proof and answers its length without the spare bytes, or NotGenuine.
@@ -64,6 +62,5 @@ pub fn open_with_proof<C: BlockCipher + Drop>(
     ensures after { message.new ≡ if_genuine result (opened_under C.BlockCipher.forward C.BlockCipher.back C.BlockCipher.key_length bundle.now nonce.now ad.now message.old) message.old }
     ensures back { OnOk result (sealed_under C.BlockCipher.forward C.BlockCipher.key_length bundle.now nonce.now ad.now message.new ≡ message.old) }
 {
-    let keys: Keys<C> = Keys::from_bundle(bundle)?;
-    keys.open_with_proof(nonce, ad, message)
+    Keys::<C>::from_bundle(bundle)?.open_with_proof(nonce, ad, message)
 }

@@ -15,4 +15,4 @@ pub use calls::{open, open_with_proof, seal, seal_with_proof};
 pub use hashing::hash;
 pub use keys::Keys;
 pub use laws::mode_laws;
-pub use mac::cmac;
+pub use mac::{cmac, cmac_under_key};

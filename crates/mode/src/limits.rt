@@ -1,7 +1,8 @@
-// The limits of the calls, and the checks of lengths that the calls share.
-ghost use Rattle.std.specs.Prelude.{◌≡◌, ◌≤◌, Ok, OnOk};
+// The limits of the calls, and what the calls check of lengths.
+ghost use Rattle.std.specs.Prelude.{◌≡◌, ◌≤◌, length, Ok, OnOk, IfOk};
+ghost use Rattle.base.specs.Bytes.{AllBytes};
 ghost use Rattle.base.specs.Refusals.{decided};
-ghost use Rattle.mode.specs.Calls.{context_limit, shortest_message, longest_message, message_checks, length_checks};
+ghost use Rattle.mode.specs.Calls.{context_limit, shortest_message, longest_message, message_checks, length_checks, outcome};
 
 use base::Refusal;
 
@@ -18,23 +19,37 @@ pub const LONGEST_MESSAGE: usize = 65536;
 pub const BLOCK: usize = 16;
 
 // Checks a message by its length.
-pub fn check_message(message: usize) -> Result<usize, Refusal>
-    ensures answer { result ≡ decided (message_checks message) (Ok 0) }
+pub fn check_message(message: usize) -> Result<(), Refusal>
+    ensures answer { result ≡ decided (message_checks message) (Ok tt) }
     ensures fits { OnOk result ((shortest_message ≤ message) × (message ≤ longest_message)) }
 {
-    if message < SHORTEST_MESSAGE || message > LONGEST_MESSAGE {
+    if !(SHORTEST_MESSAGE..=LONGEST_MESSAGE).contains(&message) {
         return Err(Refusal::WrongLength);
     }
-    Ok(0)
+    Ok(())
 }
 
-// Checks nonce, associated data and message by their lengths.
-pub fn check_lengths(nonce: usize, ad: usize, message: usize) -> Result<usize, Refusal>
-    ensures answer { result ≡ decided (length_checks nonce ad message) (Ok 0) }
-    ensures fits { OnOk result ((nonce ≤ context_limit) × (ad ≤ context_limit) × (shortest_message ≤ message) × (message ≤ longest_message)) }
-{
-    if nonce > CONTEXT_LIMIT || ad > CONTEXT_LIMIT {
-        return Err(Refusal::ContextTooLong);
+// What a message is bound to, each part within its limit: nonce, associated data and the message's length.
+#[derive(Drop)]
+pub struct Binding<'a> {
+    pub nonce: &'a [u8],
+    pub ad: &'a [u8],
+    pub message: usize,
+    ghost context_fits: { (length nonce.now ≤ context_limit) × (length ad.now ≤ context_limit) },
+    ghost message_fits: { (shortest_message ≤ message) × (message ≤ longest_message) },
+    ghost bytes: { AllBytes nonce.now × AllBytes ad.now },
+}
+
+impl<'a> Binding<'a> {
+    // The binding, or the refusal of the first part that is not within its limit.
+    pub fn new(nonce: &'a [u8], ad: &'a [u8], message: usize) -> Result<Binding<'a>, Refusal>
+        ensures answer { outcome result ≡ decided (length_checks (length nonce.now) (length ad.now) message) (Ok 0) }
+        ensures parts { IfOk result (λ bound. (bound.nonce.now ≡ nonce.now) × (bound.ad.now ≡ ad.now) × (bound.message ≡ message)) }
+    {
+        if nonce.len() > CONTEXT_LIMIT || ad.len() > CONTEXT_LIMIT {
+            return Err(Refusal::ContextTooLong);
+        }
+        check_message(message)?;
+        Ok(Binding { nonce, ad, message })
     }
-    check_message(message)
 }

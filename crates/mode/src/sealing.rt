@@ -1,4 +1,5 @@
-// Sealing and opening in place, under tau and beta one.
+// Sealing and opening in place, under tau and beta one. Two functions, since each of their three steps differs; and each
+// asks for a whole block, as those of hashing and enciphering do.
 ghost use Rattle.std.specs.Prelude.{◌≡◌, ◌≤◌, length};
 ghost use Rattle.field.specs.Field.{times_z};
 ghost use Rattle.mode.specs.Sealing.{sealed_with, opened_with};
@@ -6,7 +7,7 @@ ghost use Rattle.mode.specs.Sealing.{sealed_with, opened_with};
 use crate::enciphering::{decipher, encipher};
 use crate::hashing::{hash_with, unhash_with};
 use ciphers::BlockCipher;
-use field::double;
+use field::{Factor, double};
 
 // Beta two: z times beta one.
 fn beta_two(one: u128) -> u128
@@ -20,10 +21,11 @@ pub fn seal_with<C: BlockCipher>(blk: &C, tau: u128, one: u128, message: &mut [u
     requires { 16 ≤ length message.old }
     ensures { message.new ≡ sealed_with (C.BlockCipher.forward (C.BlockCipher.key_of blk.now)) tau one (times_z one) message.old }
 {
+    let tau = Factor::new(tau);
     let two = beta_two(one);
-    hash_with(message, tau, one);
+    hash_with(message, &tau, one);
     encipher(blk, message);
-    unhash_with(message, tau, two);
+    unhash_with(message, &tau, two);
 }
 
 // Hashes with beta two, undoes the enciphering, and undoes a hashing with beta one.
@@ -31,8 +33,9 @@ pub fn open_with<C: BlockCipher>(blk: &C, tau: u128, one: u128, message: &mut [u
     requires { 16 ≤ length message.old }
     ensures { message.new ≡ opened_with (C.BlockCipher.back (C.BlockCipher.key_of blk.now)) tau one (times_z one) message.old }
 {
+    let tau = Factor::new(tau);
     let two = beta_two(one);
-    hash_with(message, tau, two);
+    hash_with(message, &tau, two);
     decipher(blk, message);
-    unhash_with(message, tau, one);
+    unhash_with(message, &tau, one);
 }

@@ -6,7 +6,7 @@ ghost use Rattle.mode.specs.Keys.{bundle_of};
 ghost use Rattle.mode.specs.Calls.{length_checks, proof_checks, spare_zeroed, if_accepted, if_genuine};
 
 use crate::keys::Keys;
-use crate::limits::{BLOCK, check_lengths};
+use crate::limits::{BLOCK, Binding};
 use base::{Refusal, all_zero, wipe};
 use ciphers::BlockCipher;
 
@@ -22,10 +22,10 @@ impl<C: BlockCipher> Keys<C> {
         ensures after { message.new ≡ if_accepted result (sealed_under C.BlockCipher.forward C.BlockCipher.key_length (bundle_of C.BlockCipher.key_of self.now) nonce.now ad.now (spare_zeroed message.old)) message.old }
         ensures back { OnOk result (opened_under C.BlockCipher.forward C.BlockCipher.back C.BlockCipher.key_length (bundle_of C.BlockCipher.key_of self.now) nonce.now ad.now message.new ≡ spare_zeroed message.old) }
     {
-        check_lengths(nonce.len(), ad.len(), message.len())?;
+        let bound = Binding::new(nonce, ad, message.len())?;
         let spare = message.len() - BLOCK;
         wipe(&mut message[spare..]);
-        self.seal_checked(nonce, ad, message);
+        self.seal_bound(&bound, message);
         Ok(0)
     }
 
@@ -41,8 +41,8 @@ impl<C: BlockCipher> Keys<C> {
         ensures after { message.new ≡ if_genuine result (opened_under C.BlockCipher.forward C.BlockCipher.back C.BlockCipher.key_length (bundle_of C.BlockCipher.key_of self.now) nonce.now ad.now message.old) message.old }
         ensures back { OnOk result (sealed_under C.BlockCipher.forward C.BlockCipher.key_length (bundle_of C.BlockCipher.key_of self.now) nonce.now ad.now message.new ≡ message.old) }
     {
-        check_lengths(nonce.len(), ad.len(), message.len())?;
-        self.open_checked(nonce, ad, message);
+        let bound = Binding::new(nonce, ad, message.len())?;
+        self.open_bound(&bound, message);
         let length = message.len() - BLOCK;
         if all_zero(&message[length..]) {
             Ok(length)

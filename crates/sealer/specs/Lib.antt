@@ -1,2 +1,3 @@
 pub mod Work
-pub mod Kinds
+pub mod Sealing
+pub mod Commands

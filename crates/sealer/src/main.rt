@@ -1,6 +1,8 @@
 #![tactic(auto)]
 // Reads commands on ciphers and messages, one a line, and answers each with one line.
 mod commands;
+mod kinds;
+mod sealing;
 mod work;
 
 use commands::respond;
@@ -13,6 +15,7 @@ fn main(rt: HostRuntime) -> io::Result<()> {
     let mut input = BufReader::new(heap, rt.stdin())?;
     let mut output = BufWriter::new(heap, rt.stdout())?;
     let mut line = Vec::new(heap);
+    // `lines` would end at a line that is not text, and `split` makes a new buffer for each
     for _ in 0..u64::MAX {
         if !read_line(&mut input, &mut line)? {
             break;

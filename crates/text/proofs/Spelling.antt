@@ -1,5 +1,6 @@
 -- Hexadecimal, digit by digit.
-use Rattle.std.proofs.Common.{◌≡◌, ℕ, suc, ◌+◌, ◌*◌, ◌/◌, ◌%◌, ◌<◌, false, List, [], ◌∷◌, ◌++◌, length, get_or, take, drop, Some, None, codes, Decides, Option, sym, refl, ap, ◌∙◌, append_assoc, append-nil, arith}
+use Rattle.std.proofs.Common.{◌≡◌, ℕ, zero, suc, ◌+◌, ◌*◌, ◌/◌, ◌%◌, ◌<◌, ◌≤◌, false, List, [], ◌∷◌, ◌++◌, length, get_or, take, drop, Some, None, codes, Decides, Option, sym, refl, ap, ◌∙◌, append_assoc, append-nil, arith}
+use Rattle.std.specs.Simd.{first_chunks}
 use Rattle.std.proofs.lemmas.List.{drop_more, drop_all, take_more}
 use Rattle.std.proofs.lemmas.Bool.Decides.{nat_tests, not_from_Decides}
 use Rattle.base.specs.Bytes.{AllBytes}
@@ -36,24 +37,33 @@ other_word word ds differs same = not-dash word (not_from_Decides false differs 
     not-dash (c ∷ []) other = let ne : c ≡ 45 → ⊥ = λ e. other (ap (λ x. x ∷ []) e) in grind (arith, nat_tests)
     not-dash (h ∷ (l ∷ more)) other = refl
 
-module _ (ds : List ℕ) (i : ℕ) (within : i * 2 + 1 < length ds) where
-  pair_at : pairs_of (drop (i * 2) ds) ≡ before (byte_of (get_or ds (i * 2) 0) (get_or ds (i * 2 + 1) 0)) (pairs_of (drop ((i + 1) * 2) ds))
-  pair_at =
-      let here : drop (i * 2) ds ≡ get_or ds (i * 2) 0 ∷ drop (i * 2 + 1) ds = drop_more ds (i * 2) 0 (omega arith) in
-      let next : drop (i * 2 + 1) ds ≡ get_or ds (i * 2 + 1) 0 ∷ drop (i * 2 + 1 + 1) ds = drop_more ds (i * 2 + 1) 0 within in
-      let place : i * 2 + 1 + 1 ≡ (i + 1) * 2 = omega arith in
-      ap pairs_of (here ∙ ap (λ r. get_or ds (i * 2) 0 ∷ r) (next ∙ ap (λ k. get_or ds (i * 2 + 1) 0 ∷ drop k ds) place))
+-- the bytes that pairs of digits spell, one after another
+abbrev pub spelled : List (List ℕ) → Option (List ℕ)
+spelled [] = Some []
+spelled (p ∷ pairs) = before (byte_of (get_or p 0 0) (get_or p 1 0)) (spelled pairs)
 
-  pub pairs_more : (bs : List ℕ) (b : ℕ) → pairs_of ds ≡ after bs (pairs_of (drop (i * 2) ds)) → byte_of (get_or ds (i * 2) 0) (get_or ds (i * 2 + 1) 0) ≡ Some b → pairs_of ds ≡ after (bs ++ (b ∷ [])) (pairs_of (drop ((i + 1) * 2) ds))
-  pairs_more bs b so spelled =
-      so ∙ ap (after bs) (pair_at ∙ ap (λ o. before o (pairs_of (drop ((i + 1) * 2) ds))) spelled) ∙ after_push bs b (pairs_of (drop ((i + 1) * 2) ds))
+pairs_cut : (k : ℕ) (ds : List ℕ) → length ds ≡ k * 2 → pairs_of ds ≡ spelled (first_chunks 2 k ds)
+pairs_cut zero [] long = refl
+pairs_cut zero (c ∷ ds) long = absurd (omega arith)
+pairs_cut (suc k) [] long = absurd (omega arith)
+pairs_cut (suc k) (c ∷ []) long = absurd (omega arith)
+pairs_cut (suc k) (h ∷ (l ∷ more)) long = ap (before (byte_of h l)) (pairs_cut k more (omega arith))
 
-  pub pairs_wrong : (bs : List ℕ) → pairs_of ds ≡ after bs (pairs_of (drop (i * 2) ds)) → byte_of (get_or ds (i * 2) 0) (get_or ds (i * 2 + 1) 0) ≡ None → pairs_of ds ≡ None
-  pairs_wrong bs so wrong = so ∙ ap (after bs) (pair_at ∙ ap (λ o. before o (pairs_of (drop ((i + 1) * 2) ds))) wrong)
+pub word_cut : (word ds : List ℕ) (pairs : List (List ℕ)) → Decides false (word ≡ codes "-") → ds ≡ word → pairs ≡ first_chunks 2 (length ds / 2) ds → length ds % 2 ≡ 0 → bytes_of word ≡ spelled pairs
+word_cut word ds pairs differs same cut even = other_word word ds differs same ∙ pairs_cut (length ds / 2) ds (omega arith) ∙ ap spelled (sym cut)
 
-pub pairs_all : (ds bs : List ℕ) (i : ℕ) → length ds ≡ i * 2 → pairs_of ds ≡ after bs (pairs_of (drop (i * 2) ds)) → pairs_of ds ≡ Some bs
-pairs_all ds bs i long so =
-    so ∙ ap (λ r. after bs (pairs_of r)) (ap (λ k. drop k ds) (sym long) ∙ drop_all _ ds (omega arith)) ∙ ap Some (append-nil bs)
+module _ (pairs : List (List ℕ)) (i : ℕ) (within : i < length pairs) (bs : List ℕ) (so : spelled pairs ≡ after bs (spelled (drop i pairs))) where
+  so_next : spelled pairs ≡ after bs (before (byte_of (get_or (get_or pairs i []) 0 0) (get_or (get_or pairs i []) 1 0)) (spelled (drop (i + 1) pairs)))
+  so_next = so ∙ ap (λ rest. after bs (spelled rest)) (drop_more pairs i [] within)
+
+  pub pairs_more : (b : ℕ) → byte_of (get_or (get_or pairs i []) 0 0) (get_or (get_or pairs i []) 1 0) ≡ Some b → spelled pairs ≡ after (bs ++ (b ∷ [])) (spelled (drop (i + 1) pairs))
+  pairs_more b one = so_next ∙ ap (λ o. after bs (before o (spelled (drop (i + 1) pairs)))) one ∙ after_push bs b (spelled (drop (i + 1) pairs))
+
+  pub pairs_wrong : byte_of (get_or (get_or pairs i []) 0 0) (get_or (get_or pairs i []) 1 0) ≡ None → spelled pairs ≡ None
+  pairs_wrong wrong = so_next ∙ ap (λ o. after bs (before o (spelled (drop (i + 1) pairs)))) wrong
+
+pub pairs_all : (pairs : List (List ℕ)) (i : ℕ) → length pairs ≤ i → (bs : List ℕ) → spelled pairs ≡ after bs (spelled (drop i pairs)) → spelled pairs ≡ Some bs
+pairs_all pairs i all bs so = so ∙ ap (λ rest. after bs (spelled rest)) (drop_all i pairs all) ∙ ap Some (append-nil bs)
 
 pub digits_push : (xs : List ℕ) (b : ℕ) → digits_of (xs ++ (b ∷ [])) ≡ (digits_of xs ++ (digit_of (b / 16) ∷ [])) ++ (digit_of (b % 16) ∷ [])
 digits_push [] b = refl

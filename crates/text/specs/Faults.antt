@@ -16,8 +16,14 @@ AtFaultOrFull (Line wrong) P = P
 AtFaultOrFull (Declined why) P = ⊥
 AtFaultOrFull Memory P = Unit {0}
 
+-- the text of a fault
+abbrev pub text_of : Fault → List ℕ
+text_of (Line wrong) = codes "error " ++ wrong.now
+text_of (Declined why) = codes "declined " ++ (decimal (number_of why) ++ (codes " " ++ name_of why))
+text_of Memory = codes "out of memory"
+
 -- the line that is answered; none where memory ran out
 abbrev pub answer_to : Fault → Option (List ℕ)
-answer_to (Line wrong) = Some (codes "error " ++ wrong.now)
-answer_to (Declined why) = Some (codes "declined " ++ (decimal (number_of why) ++ (codes " " ++ name_of why)))
+answer_to (Line wrong) = Some (text_of (Line wrong))
+answer_to (Declined why) = Some (text_of (Declined why))
 answer_to Memory = None

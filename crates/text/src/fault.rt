@@ -1,12 +1,14 @@
 ghost use Rattle.std.specs.Prelude.{◌≡◌, IfOk, Some, string_bytes};
-ghost use Rattle.text.specs.Faults.{answer_to};
+ghost use Rattle.text.specs.Faults.{answer_to, text_of};
 ghost use Rattle.text.specs.declared.fault.Fault.TheVariants.{Declined, Memory};
 
 use base::Refusal;
 use std::alloc::{AllocError, AllocFailed, Global};
+use std::error::Error;
+use std::fmt;
 
 // Why a command got no answer of its own.
-#[derive(Drop)]
+#[derive(Debug, Drop)]
 pub enum Fault {
     // the line is no command; what is wrong with it, in words
     Line(&'static str),
@@ -20,16 +22,25 @@ impl Fault {
         ensures { IfOk result (λ line. answer_to self ≡ Some (string_bytes line)) }
     {
         match self {
-            Fault::Line(wrong) => format!(in heap; "error {wrong}"),
-            Fault::Declined(why) => {
-                let number = why.number();
-                let name = why.name();
-                format!(in heap; "declined {number} {name}")
-            }
             Fault::Memory => Err(AllocError),
+            fault => fault.to_string(heap),
         }
     }
 }
+
+impl fmt::Display for Fault {
+    ghost output = { λ fault. Some (text_of fault) };
+
+    fn fmt<W: fmt::Write>(&self, f: &mut fmt::Formatter<W>) -> fmt::Result {
+        match self {
+            Fault::Line(wrong) => write!(f, "error {wrong}"),
+            Fault::Declined(why) => write!(f, "declined {} {why}", why.number()),
+            Fault::Memory => write!(f, "out of memory"),
+        }
+    }
+}
+
+impl Error for Fault {}
 
 impl From<Refusal> for Fault {
     ghost from_gives = { λ why r. r ≡ Declined why };

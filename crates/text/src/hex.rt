@@ -5,7 +5,7 @@ ghost use Rattle.text.specs.Hexadecimal.{value_of, digit_of, byte_of, bytes_of, 
 use crate::fault::Fault;
 use std::alloc::{AllocError, Global};
 
-// The value of a hexadecimal digit, in either case.
+// The value of a hexadecimal digit, in either case; by cases, here and below, as the definitions have it.
 fn digit_value(c: u8) -> Option<u8>
     ensures value { result ≡ value_of c }
     ensures below { IfSome result (λ v. v < 16) }
@@ -22,10 +22,7 @@ fn digit_value(c: u8) -> Option<u8>
 fn byte(high: u8, low: u8) -> Option<u8>
     ensures { result ≡ byte_of high low }
 {
-    match (digit_value(high), digit_value(low)) {
-        (Some(h), Some(l)) => Some(h * 16 + l),
-        _ => None,
-    }
+    Some(digit_value(high)? * 16 + digit_value(low)?)
 }
 
 // The digit of the lowest four bits.
@@ -49,12 +46,12 @@ pub fn decode(heap: Global, word: &str) -> Result<Vec<u8>, Fault>
     if word == "-" {
         return Ok(bytes);
     }
-    let digits = word.as_bytes();
-    if digits.len() % 2 != 0 {
+    let (pairs, odd) = word.as_bytes().as_chunks::<2>();
+    if !odd.is_empty() {
         return Err(Fault::Line("an odd number of hexadecimal digits"));
     }
-    for i in 0..digits.len() / 2 {
-        match byte(digits[i * 2], digits[i * 2 + 1]) {
+    for [high, low] in pairs {
+        match byte(*high, *low) {
             Some(b) => bytes.push(b)?,
             None => return Err(Fault::Line("not a hexadecimal digit")),
         }

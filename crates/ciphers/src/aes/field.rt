@@ -9,30 +9,22 @@ pub(super) fn double(a: u8) -> u8
     (a << 1) ^ (27 * (a >> 7))
 }
 
-// Times x^3 + 1.
-pub(super) fn times9(a: u8) -> u8
-    ensures { result ≡ product 9 a }
+// Times a factor: its bits say which of a, twice a, four times a and so on are added up, as in the product of `field` on wider
+// numbers, which these crates don't share. Joined with its caller, which knows the factor.
+#[inline(always)]
+pub(super) fn times(factor: u8, a: u8) -> u8
+    ensures { result ≡ product factor a }
 {
-    double(double(double(a))) ^ a
-}
-
-// Times x^3 + x + 1.
-pub(super) fn times11(a: u8) -> u8
-    ensures { result ≡ product 11 a }
-{
-    double(double(double(a)) ^ a) ^ a
-}
-
-// Times x^3 + x^2 + 1.
-pub(super) fn times13(a: u8) -> u8
-    ensures { result ≡ product 13 a }
-{
-    double(double(double(a) ^ a)) ^ a
-}
-
-// Times x^3 + x^2 + x.
-pub(super) fn times14(a: u8) -> u8
-    ensures { result ≡ product 14 a }
-{
-    double(double(double(a) ^ a) ^ a)
+    let mut bits = factor;
+    let mut multiple = a;
+    let mut sum = 0;
+    // once for each bit: a fold would carry the same three values
+    for _i in 0..8u32 {
+        if bits % 2 == 1 {
+            sum ^= multiple;
+        }
+        bits /= 2;
+        multiple = double(multiple);
+    }
+    sum
 }

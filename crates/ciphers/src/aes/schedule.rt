@@ -1,7 +1,7 @@
-// The key expansion, over as many words of four bytes as the key has.
-ghost use Rattle.std.specs.Prelude.{◌≡◌, ◌-◌, ◌*◌, ◌/◌, ◌%◌, ◌<◌, ◌≤◌, length};
-ghost use Rattle.ciphers.specs.AesSteps.{word};
-ghost use Rattle.ciphers.specs.AesSchedule.{rot_word, sub_word, round_constant, turned_at, substituted_at, temp, next_word, expanded};
+// The key expansion, over as many words of four bytes as the key has: nk, a plain number, as FIPS 197 has it.
+ghost use Rattle.std.specs.Prelude.{◌≡◌, ◌-◌, ◌/◌, ◌%◌, ◌<◌, ◌≤◌, [], length, get_or};
+ghost use Rattle.base.specs.Bytes.{xor_front};
+ghost use Rattle.ciphers.specs.AesSchedule.{rot_word, sub_word, round_constant, turned_at, substituted_at, temp, expanded};
 
 use super::field::double;
 use super::tables::substitute;
@@ -11,37 +11,14 @@ use base::xor_front;
 fn round_constant(j: usize) -> u8
     ensures { result ≡ round_constant j }
 {
-    let mut power = 1;
-    for _i in 1..j {
-        power = double(power);
-    }
-    power
-}
-
-// The word of number i.
-fn word_at(words: &[u8], i: usize) -> [u8; 4]
-    requires { i < length words.now / 4 }
-    ensures { result ≡ word i words.now }
-{
-    let start = 4 * i;
-    [
-        words[start],
-        words[start + 1],
-        words[start + 2],
-        words[start + 3],
-    ]
+    (1..j).fold(1, |power, _| double(power))
 }
 
 // Every byte of a word substituted.
 fn sub_word(w: [u8; 4]) -> [u8; 4]
     ensures { result ≡ sub_word w }
 {
-    [
-        substitute(w[0]),
-        substitute(w[1]),
-        substitute(w[2]),
-        substitute(w[3]),
-    ]
+    w.map(substitute)
 }
 
 // A word turned left by one byte.
@@ -84,18 +61,19 @@ fn temp_word(nk: usize, i: usize, last: [u8; 4]) -> [u8; 4]
 }
 
 // The word that comes after these.
-fn next_word(nk: usize, words: &[u8]) -> [u8; 4]
-    requires { (0 < nk) × (nk ≤ length words.now / 4) }
-    ensures { result ≡ next_word nk (length words.now / 4) words.now }
+fn next_word(nk: usize, words: &[[u8; 4]]) -> [u8; 4]
+    requires { (0 < nk) × (nk ≤ length words.now) }
+    ensures { result ≡ xor_front (get_or words.now (length words.now - nk) []) (temp nk (length words.now) (get_or words.now (length words.now - 1) [])) }
 {
-    let i = words.len() / 4;
-    let mut next = word_at(words, i - nk);
-    let temp = temp_word(nk, i, word_at(words, i - 1));
+    let i = words.len();
+    let mut next = words[i - nk];
+    let temp = temp_word(nk, i, words[i - 1]);
     xor_front(&mut next, &temp);
     next
 }
 
-// Fills the schedule with the key's words and those that follow from them.
+// Fills the schedule with the key's words and those that follow from them. It is filled where it lies and not returned: a part lent
+// of an array whose length is a parameter is not covered by proofs yet.
 pub(super) fn expand(key: &[u8], schedule: &mut [u8])
     requires key_nonzero { (0 < length key.now) × (length key.now % 4 ≡ 0) }
     requires key_in_bounds { (length key.now ≤ length schedule.old) × (length schedule.old % 4 ≡ 0) }
@@ -103,8 +81,10 @@ pub(super) fn expand(key: &[u8], schedule: &mut [u8])
 {
     let nk = key.len() / 4;
     schedule[..key.len()].copy_from_slice(key);
+    // by place: a word is made from those before it, which stand in the schedule that it is written into
     for i in nk..schedule.len() / 4 {
-        let next = next_word(nk, &schedule[..4 * i]);
+        let (words, _) = schedule[..4 * i].as_chunks::<4>();
+        let next = next_word(nk, words);
         schedule[4 * i..4 * i + 4].copy_from_slice(&next);
     }
 }

@@ -1,71 +1,94 @@
-// The steps of a round. Each reads one array of sixteen bytes and fills another, column by column.
-ghost use Rattle.std.specs.Prelude.{◌≡◌, length};
-ghost use Rattle.ciphers.specs.AesSteps.{sub_bytes, shift_rows, mix_column, mix_columns, inv_sub_bytes, inv_shift_rows, inv_mix_column, inv_mix_columns};
+// The steps of a round, each from one block of sixteen bytes to another.
+ghost use Rattle.std.specs.Prelude.{◌≡◌, ◌*◌, ◌%◌, ◌<◌, map, slice_index};
+ghost use Rattle.std.specs.List.{range_with_len};
+ghost use Rattle.ciphers.specs.AesSteps.{sub_bytes, shift_rows, row, mixed_by, columnwise, mix_columns, inv_sub_bytes, inv_shift_rows, inv_mix_columns};
 
-use super::field::{double, times9, times11, times13, times14};
-use super::tables::{inv_substitute, substitute};
+use super::field::times;
+use super::tables::{INV_SBOX, SBOX};
+use std::array;
 
-// SubBytes and ShiftRows. Row r turns left by r places, so byte i comes from place 5 i modulo 16.
-pub(super) fn sub_shift(from: &[u8], to: &mut [u8])
-    requires { (length from.now ≡ 16) × (length to.old ≡ 16) }
-    ensures { to.new ≡ shift_rows (sub_bytes from.now) }
+// The first rows of the matrix of MixColumns and of its inverse.
+const MIX: [u8; 4] = [2, 3, 1, 1];
+
+const UNMIX: [u8; 4] = [14, 11, 13, 9];
+
+// The entries of a table for the bytes of a block, where byte i comes from place `step` times i modulo 16.
+#[inline(always)]
+fn looked_up(table: &[u8; 256], step: usize, block: [u8; 16]) -> [u8; 16]
+    requires { step < 16 }
+    ensures { result ≡ map (λ i. slice_index table.now (slice_index block (step * i % 16))) (range_with_len 0 16) }
 {
-    for i in 0..16 {
-        to[i] = substitute(from[5 * i % 16]);
-    }
+    array::from_fn(|i| table[block[step * i % 16] as usize])
+}
+
+// SubBytes and ShiftRows. Row r turns left by r places, so byte i comes from place 5 i modulo 16. A call of its own, as on
+// the way back: joined with the mixing, the bytes went into a vector register one by one, and a round took a third longer.
+#[inline(never)]
+pub(super) fn sub_shift(block: [u8; 16]) -> [u8; 16]
+    ensures { result ≡ shift_rows (sub_bytes block) }
+{
+    looked_up(&SBOX, 5, block)
 }
 
 // InvShiftRows and InvSubBytes. Row r turns right by r places, so byte i comes from place 13 i modulo 16.
-pub(super) fn inv_shift_sub(from: &[u8], to: &mut [u8])
-    requires { (length from.now ≡ 16) × (length to.old ≡ 16) }
-    ensures { to.new ≡ inv_sub_bytes (inv_shift_rows from.now) }
+#[inline(never)]
+pub(super) fn inv_shift_sub(block: [u8; 16]) -> [u8; 16]
+    ensures { result ≡ inv_sub_bytes (inv_shift_rows block) }
 {
-    for i in 0..16 {
-        to[i] = inv_substitute(from[13 * i % 16]);
-    }
+    looked_up(&INV_SBOX, 13, block)
 }
 
-// One column times the matrix of MixColumns, whose factors are 1, 2 and 3.
-fn mix_column(from: &[u8], to: &mut [u8])
-    requires { (length from.now ≡ 4) × (length to.old ≡ 4) }
-    ensures { to.new ≡ mix_column from.now }
+// One row of factors times a column.
+#[inline(always)]
+fn row(factors: [u8; 4], column: [u8; 4]) -> u8
+    ensures { result ≡ row (slice_index factors 0) (slice_index factors 1) (slice_index factors 2) (slice_index factors 3) column }
 {
-    let (a, b, c, d) = (from[0], from[1], from[2], from[3]);
-    let (a2, b2, c2, d2) = (double(a), double(b), double(c), double(d));
-    to[0] = a2 ^ (b2 ^ b) ^ c ^ d;
-    to[1] = a ^ b2 ^ (c2 ^ c) ^ d;
-    to[2] = a ^ b ^ c2 ^ (d2 ^ d);
-    to[3] = (a2 ^ a) ^ b ^ c ^ d2;
+    times(factors[0], column[0])
+        ^ times(factors[1], column[1])
+        ^ times(factors[2], column[2])
+        ^ times(factors[3], column[3])
 }
 
-// One column times the inverse matrix.
-fn inv_mix_column(from: &[u8], to: &mut [u8])
-    requires { (length from.now ≡ 4) × (length to.old ≡ 4) }
-    ensures { to.new ≡ inv_mix_column from.now }
+// A column times the matrix with this first row, where each row after it is the one before turned right by one place.
+#[inline(always)]
+fn mix_column(factors: [u8; 4], column: [u8; 4]) -> [u8; 4]
+    ensures { result ≡ mixed_by factors column }
 {
-    let (a, b, c, d) = (from[0], from[1], from[2], from[3]);
-    to[0] = times14(a) ^ times11(b) ^ times13(c) ^ times9(d);
-    to[1] = times9(a) ^ times14(b) ^ times11(c) ^ times13(d);
-    to[2] = times13(a) ^ times9(b) ^ times14(c) ^ times11(d);
-    to[3] = times11(a) ^ times13(b) ^ times9(c) ^ times14(d);
+    let [k, l, m, n] = factors;
+    [
+        row([k, l, m, n], column),
+        row([n, k, l, m], column),
+        row([m, n, k, l], column),
+        row([l, m, n, k], column),
+    ]
+}
+
+// That matrix times each column of a block. The four are spelled out: the factors do not reach a closure of `array::from_fn`
+// as constants, which doubled the time.
+#[inline(always)]
+fn mix(factors: [u8; 4], block: [u8; 16]) -> [u8; 16]
+    ensures { result ≡ columnwise (mixed_by factors) 4 block }
+{
+    let (columns, _) = block.as_chunks::<4>();
+    let mixed = [
+        mix_column(factors, columns[0]),
+        mix_column(factors, columns[1]),
+        mix_column(factors, columns[2]),
+        mix_column(factors, columns[3]),
+    ];
+    *mixed.as_flattened().as_array().unwrap()
 }
 
 // MixColumns: each column mixed.
-pub(super) fn mix_columns(from: &[u8], to: &mut [u8])
-    requires { (length from.now ≡ 16) × (length to.old ≡ 16) }
-    ensures { to.new ≡ mix_columns from.now }
+pub(super) fn mix_columns(block: [u8; 16]) -> [u8; 16]
+    ensures { result ≡ mix_columns block }
 {
-    for i in 0..4 {
-        mix_column(&from[4 * i..4 * i + 4], &mut to[4 * i..4 * i + 4]);
-    }
+    mix(MIX, block)
 }
 
 // InvMixColumns: each column unmixed.
-pub(super) fn inv_mix_columns(from: &[u8], to: &mut [u8])
-    requires { (length from.now ≡ 16) × (length to.old ≡ 16) }
-    ensures { to.new ≡ inv_mix_columns from.now }
+pub(super) fn inv_mix_columns(block: [u8; 16]) -> [u8; 16]
+    ensures { result ≡ inv_mix_columns block }
 {
-    for i in 0..4 {
-        inv_mix_column(&from[4 * i..4 * i + 4], &mut to[4 * i..4 * i + 4]);
-    }
+    mix(UNMIX, block)
 }

@@ -1,9 +1,9 @@
-// The substitution of a byte and its undoing, by tables.
+// The tables of the substitution of a byte and of its undoing.
 ghost use Rattle.std.specs.Prelude.{◌≡◌};
-ghost use Rattle.ciphers.specs.AesField.{substitution, inv_substitution};
+ghost use Rattle.ciphers.specs.AesField.{substitution};
 
 // Row by row as FIPS 197 prints it: the higher half of a byte chooses the row, the lower the column.
-const SBOX: [u8; 256] = *b"\
+pub(super) static SBOX: [u8; 256] = *b"\
     \x63\x7c\x77\x7b\xf2\x6b\x6f\xc5\x30\x01\x67\x2b\xfe\xd7\xab\x76\
     \xca\x82\xc9\x7d\xfa\x59\x47\xf0\xad\xd4\xa2\xaf\x9c\xa4\x72\xc0\
     \xb7\xfd\x93\x26\x36\x3f\xf7\xcc\x34\xa5\xe5\xf1\x71\xd8\x31\x15\
@@ -22,7 +22,7 @@ const SBOX: [u8; 256] = *b"\
     \x8c\xa1\x89\x0d\xbf\xe6\x42\x68\x41\x99\x2d\x0f\xb0\x54\xbb\x16";
 
 // The same for the way back.
-const INV_SBOX: [u8; 256] = *b"\
+pub(super) static INV_SBOX: [u8; 256] = *b"\
     \x52\x09\x6a\xd5\x30\x36\xa5\x38\xbf\x40\xa3\x9e\x81\xf3\xd7\xfb\
     \x7c\xe3\x39\x82\x9b\x2f\xff\x87\x34\x8e\x43\x44\xc4\xde\xe9\xcb\
     \x54\x7b\x94\x32\xa6\xc2\x23\x3d\xee\x4c\x95\x0b\x42\xfa\xc3\x4e\
@@ -45,11 +45,4 @@ pub(super) fn substitute(a: u8) -> u8
     ensures { result ≡ substitution a }
 {
     SBOX[a as usize]
-}
-
-// Its undoing.
-pub(super) fn inv_substitute(a: u8) -> u8
-    ensures { result ≡ inv_substitution a }
-{
-    INV_SBOX[a as usize]
 }

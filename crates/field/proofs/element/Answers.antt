@@ -1,7 +1,6 @@
-use Rattle.std.proofs.Common.{ap, ◌∙◌}
-use Rattle.base.specs.Numbers.{number}
+use Rattle.std.proofs.Common.{rules}
 use Rattle.base.proofs.Digits.{from_le_128}
 use Rattle.field.proofs.element.Goals as goal
 
 pub returns : goal.returns
-returns c = c.from_le_bytes.ensures ∙ from_le_128 c.copy_from_slice.new.self c.copy_from_slice.ensures.len ∙ ap number c.copy_from_slice.ensures.after
+returns c = let e = from_le_128 c.args.block.now (search rules) in cc

@@ -1,6 +1,5 @@
-use Rattle.std.proofs.Common.{refl}
 use Rattle.field.proofs.Products.{laws}
 use Rattle.field.proofs.field_laws.Goals as goal
 
-pub returns : goal.returns
-returns c = record { answer = refl; laws = laws }
+pub returns-clause-laws : goal.returns-clause-laws
+returns-clause-laws c = laws

@@ -1,11 +1,10 @@
 use Rattle.std.proofs.Common.{◌<◌, ◌≢◌, length, refl, ap, ◌∙◌, arith, length-set, get_or-set_other, get_or-set_same, rules, below_more}
 use Rattle.ciphers.specs.Speck.{words_of}
-use Rattle.ciphers.specs.SpeckRounds.{scheduled_none, scheduled_more, all_keys, pair}
+use Rattle.ciphers.specs.SpeckRounds.{scheduled_none, scheduled_more, all_keys}
 use Rattle.ciphers.proofs.speck.round_keys.Goals as goal
 
 pub loop-i-init : goal.loop-i-init
-unfolding words_of
-loop-i-init c = (pair _ _ _ _ c.read_word.ensures c.read_word-2.ensures ∙ scheduled_none _, refl, λ j h. absurd (omega arith))
+loop-i-init c = (c.read_words-words.ensures ∙ scheduled_none _, refl, λ j h. absurd (omega arith))
 
 pub loop-i-preserved : goal.loop-i-preserved
 loop-i-preserved c = (
@@ -13,7 +12,7 @@ loop-i-preserved c = (
   length-set _ _ _ ∙ c.loop-i.invariant.1,
   below_more _ _
       (λ k h. let ne : k ≢ c.loop-i.i = omega arith in rw get_or-set_other (c.loop-i.invariant.2 k h))
-      (let lt : c.loop-i.i < length c.loop-i.keys = search rules in rw get_or-set_same (ap (λ p. p.1) c.loop-i.invariant.0)),
+      (let lt : c.loop-i.i < length c.loop-i.round_key-items = search rules in rw get_or-set_same (ap (λ p. p.1) c.loop-i.invariant.0)),
 )
 
 pub returns : goal.returns

@@ -1,11 +1,11 @@
-use Rattle.std.proofs.Common.{length, sym, ap, ◌∙◌, rules}
-use Rattle.std.proofs.lemmas.List.{drop_all}
-use Rattle.ciphers.specs.Speck.{unrounds}
-use Rattle.ciphers.specs.SpeckRounds.{unrounds_none, unrounds_more}
+use Rattle.std.proofs.Common.{sym, ◌∙◌, rules}
+use Rattle.std.proofs.lemmas.Iterator.Adapters.{YieldsList-from_rev_slice}
+use Rattle.std.proofs.lemmas.Iterator.Consumers.{fold_from_yields_List}
+use Rattle.ciphers.specs.Speck.{unround}
+use Rattle.ciphers.specs.SpeckRounds.{unrounds_reversed}
 use Rattle.ciphers.proofs.speck.rounds_back.Goals as goal
 
-pub loop-i-init : goal.loop-i-init
-loop-i-init c = unrounds_none (c.args.a, c.args.b) ∙ ap (unrounds (c.args.a, c.args.b)) (sym (drop_all (length c.args.keys.now) c.args.keys.now (search rules)))
-
-pub loop-i-preserved : goal.loop-i-preserved
-loop-i-preserved c = unrounds_more (c.args.a, c.args.b) c.loop-i.words c.unround-words.result c.args.keys.now c.loop-i.i (search rules) (search rules) c.loop-i.invariant c.unround-words.ensures
+pub returns : goal.returns
+returns c =
+    fold_from_yields_List _ unround c.args.words c.fold.result c.fold.ensures.ran (YieldsList-from_rev_slice c.args.keys.now (search rules)) (λ a x b q k. search rules)
+    ∙ sym (unrounds_reversed c.args.words c.args.keys.now)

@@ -1,13 +1,9 @@
 use Rattle.std.proofs.Common.{rules}
-use Rattle.std.proofs.lemmas.List.{take_all}
-use Rattle.ciphers.specs.SpeckRounds.{rounds_none, rounds_more}
+use Rattle.std.proofs.lemmas.Iterator.{YieldsList-from_slice}
+use Rattle.std.proofs.lemmas.Iterator.Consumers.{fold_from_yields_List}
+use Rattle.ciphers.specs.Speck.{round, rounds}
 use Rattle.ciphers.proofs.speck.rounds_forward.Goals as goal
 
-pub loop-key-init : goal.loop-key-init
-loop-key-init c = rounds_none (c.args.a, c.args.b)
-
-pub loop-key-preserved : goal.loop-key-preserved
-loop-key-preserved c = rounds_more (c.args.a, c.args.b) c.loop-key.words c.round-words.result c.args.keys.now c.loop-key.key-index (search rules) c.loop-key.invariant c.round-words.ensures
-
 pub returns : goal.returns
-returns c = search (rules, take_all)
+unfolding rounds
+returns c = fold_from_yields_List _ round c.args.words c.fold.result c.fold.ensures.ran (YieldsList-from_slice c.args.keys.now c.iter.ensures.rest) (λ a x b q k. search rules)

@@ -1,5 +1,4 @@
-use Rattle.std.proofs.Common.{◌≡◌, ℕ, ◌*◌, ◌%◌, ◌^◌, sym, ap, ◌∙◌, mod-eq_of_lt, arith}
-use lib.Bits.{bit_xor}
+use Rattle.std.proofs.Common.{◌≡◌, ℕ, ◌*◌, ◌%◌, ◌^◌, mod-eq_of_lt, arith}
 use Rattle.field.proofs.Places.{reduction}
 use Rattle.field.proofs.factors.reduced.Goals as goal
 
@@ -9,7 +8,5 @@ returns c =
     let a : (t * 128) % 2 ^ 128 ≡ t * 128 = mod-eq_of_lt (omega arith) in
     let b : (t * 4) % 2 ^ 128 ≡ t * 4 = mod-eq_of_lt (omega arith) in
     let d : (t * 2) % 2 ^ 128 ≡ t * 2 = mod-eq_of_lt (omega arith) in
-    ap (λ (x : ℕ). bit_xor (bit_xor (bit_xor x ((t * 4) % 2 ^ 128)) ((t * 2) % 2 ^ 128)) t) a
-    ∙ ap (λ (x : ℕ). bit_xor (bit_xor (bit_xor (t * 128) x) ((t * 2) % 2 ^ 128)) t) b
-    ∙ ap (λ (x : ℕ). bit_xor (bit_xor (bit_xor (t * 128) (t * 4)) x) t) d
-    ∙ sym (reduction t c.requires)
+    let e = reduction t c.requires in
+    cc

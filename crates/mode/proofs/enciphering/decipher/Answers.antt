@@ -12,9 +12,9 @@ returns g c =
     let keyed = g.met.C.BlockCipher.keyed c.args.cipher.now in
     elim c.if-message-ne0.branch [
       | then-message-ne0 w ↦ dec_some (g.C.BlockCipher.back key) (λ b h. g.met.C.BlockCipher.behind key b keyed h)
-          c.args.message.now (record { long = c.requires; fit = fit }) w.last_back.new.message w.mix_tail.new.message c.all_back.new.message (search rules) w.last_back.ensures w.mix_tail.ensures
-          (c.all_back.ensures ∙ ap (all_through (g.C.BlockCipher.back key)) w.message-is)
-      | else-message-ne0 w ↦ c.all_back.ensures ∙ ap (all_through (g.C.BlockCipher.back key)) w.message-is
+          c.args.message.now (record { long = c.requires; fit = fit }) w.last_block.new.message w.mix_tail.new.message c.all_blocks.new.message (search rules) w.last_block.ensures w.mix_tail.ensures
+          (c.all_blocks.ensures ∙ ap (all_through (g.C.BlockCipher.back key)) w.message-is)
+      | else-message-ne0 w ↦ c.all_blocks.ensures ∙ ap (all_through (g.C.BlockCipher.back key)) w.message-is
           ∙ dec_empty (g.C.BlockCipher.back key) (λ b h. g.met.C.BlockCipher.behind key b keyed h)
           c.args.message.now (record { long = c.requires; fit = fit }) (search rules)
     ]

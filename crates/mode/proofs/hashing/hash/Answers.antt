@@ -1,4 +1,4 @@
-use Rattle.std.proofs.Common.{ℕ, List, length, Ok, sym, ap, ◌∙◌}
+use Rattle.std.proofs.Common.{length, Ok, sym}
 use Rattle.base.specs.Numbers.{number, bytes}
 use Rattle.base.proofs.Digits.{to_le_128}
 use Rattle.mode.specs.Hash.{hash_of}
@@ -8,6 +8,6 @@ use Rattle.mode.proofs.hashing.hash.Goals as goal
 
 pub returns : goal.returns
 returns c =
-    let m : List ℕ = c.args.message.now in
-    ap Ok (c.to_le_bytes.ensures ∙ to_le_128 c.poly_hash.result ∙ ap (bytes 16) (c.poly_hash.ensures ∙ ap (λ (t : ℕ). hash_of t m) c.element.ensures))
-    ∙ sym (passed_too (message_checks (length m)) 0 c.in_ok-check_message.field-0 (Ok (bytes 16 (hash_of (number c.args.tau.now) m))) (sym c.in_ok-check_message.ensures.answer))
+    let spelled = to_le_128 c.poly_hash.result in
+    let passed = passed_too (message_checks (length c.args.message.now)) tt c.in_ok-check_message.field-0 (Ok (bytes 16 (hash_of (number c.args.tau.now) c.args.message.now))) (sym c.in_ok-check_message.ensures.answer) in
+    cc

@@ -6,5 +6,5 @@ use Rattle.mode.proofs.hashing.spread_over.Given as goal
 
 abbrev pub invariant-loop-i : goal.invariant-loop-i
 invariant-loop-i l =
-    (l.message ≡ blocks_joined (spread l.r l.beta l.initial.message) l.i ++ drop (l.i * 16) l.initial.message)
+    (l.blocks ≡ blocks_joined (spread l.r l.beta l.initial.blocks) l.i ++ drop (l.i * 16) l.initial.blocks)
     × (l.multiple ≡ field_product (field_power 2 l.i) l.beta)

@@ -1,7 +1,6 @@
-use Rattle.std.proofs.Common.{◌≡◌, ◌*◌, drop, vec_items}
-use Rattle.text.specs.Hexadecimal.{pairs_of}
-use Rattle.text.proofs.Spelling.{after}
+use Rattle.std.proofs.Common.{◌≡◌, drop, vec_items}
+use Rattle.text.proofs.Spelling.{after, spelled}
 use Rattle.text.proofs.hex.decode.Given as goal
 
-abbrev pub invariant-loop-i : goal.invariant-loop-i
-invariant-loop-i l = pairs_of l.digits ≡ after (vec_items l.bytes) (pairs_of (drop (l.i * 2) l.digits))
+abbrev pub invariant-loop-high : goal.invariant-loop-high
+invariant-loop-high l = spelled l.pairs ≡ after (vec_items l.bytes) (spelled (drop l.high-index l.pairs))

@@ -1,19 +1,17 @@
-use Rattle.std.proofs.Common.{◌≡◌, ℕ, ◌+◌, ◌-◌, ◌*◌, ◌/◌, length, take, drop, sym, ap, ◌∙◌, arith, rules}
-use Rattle.ciphers.proofs.AesMade.{rounds_none, rounds_more, cipher_made}
+use Rattle.std.proofs.Common.{ℕ, ◌-◌, List, [], length, get_or, take, drop, fold, ap, ◌∙◌, rules}
+use Rattle.std.proofs.lemmas.Iterator.{YieldsList-from_slice}
+use Rattle.std.proofs.lemmas.Iterator.Consumers.{fold_from_yields_List}
+use Rattle.ciphers.specs.AesSteps.{sub_bytes, shift_rows, add_round_key}
+use Rattle.ciphers.specs.Aes.{round}
+use Rattle.ciphers.proofs.AesMade.{cipher_folded}
 use Rattle.ciphers.proofs.aes.rounds.encrypt_block.Goals as goal
-
-pub loop-i-init : goal.loop-i-init
-loop-i-init c = sym (rounds_none c.args.schedule.now c.xor_front.new.a)
-
-pub loop-i-preserved : goal.loop-i-preserved
-loop-i-preserved c =
-    let k : 16 * c.loop-i.i + 16 - 16 * c.loop-i.i ≡ 16 = omega arith in
-    c.one_round.ensures
-    ∙ rounds_more c.args.schedule.now c.xor_front.new.a c.loop-i.block _ c.loop-i.i (search rules) c.loop-i.invariant
-    (ap (λ (n : ℕ). take n (drop (16 * c.loop-i.i) c.args.schedule.now)) k)
 
 pub returns : goal.returns
 returns c =
-    let k : 16 * (length c.args.schedule.now / 16 - 1) + 16 - 16 * (length c.args.schedule.now / 16 - 1) ≡ 16 = omega arith in
-    cipher_made (length c.args.schedule.now / 16 - 1) c.loop-i.i _ c.args.schedule.now c.args.block.now c.xor_front.new.a c.loop-i.block c.last_round.new.block
-    (omega arith) k c.xor_front.ensures c.loop-i.invariant c.last_round.ensures
+    let ks : List (List ℕ) = c.as_chunks.result.0.now in
+    let middle : List (List ℕ) = take (length ks - 1 - 1) (drop 1 ks) in
+    c.last_round.ensures
+    ∙ ap (λ (x : List ℕ). add_round_key (shift_rows (sub_bytes x)) (get_or ks (length ks - 1) []))
+    (fold_from_yields_List _ round c.with_key-start.result c.fold-mixed.result c.fold-mixed.ensures.ran (YieldsList-from_slice middle c.iter.ensures.rest) (λ a x b q k. search rules)
+    ∙ ap (λ (s : List ℕ). fold round s middle) c.with_key-start.ensures)
+    ∙ cipher_folded c.args.schedule.now ks c.as_chunks.ensures.front c.as_chunks.ensures.front_len c.args.block c.requires

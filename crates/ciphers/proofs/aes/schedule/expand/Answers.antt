@@ -1,6 +1,6 @@
-use Rattle.std.proofs.Common.{◌≡◌, ℕ, ◌+◌, ◌-◌, ◌*◌, ◌/◌, ◌<◌, List, ◌++◌, length, drop, refl, ap, ◌∙◌, arith, length-append, length-drop, rules}
+use Rattle.std.proofs.Common.{◌≡◌, ℕ, ◌+◌, ◌-◌, ◌*◌, ◌/◌, ◌<◌, List, ◌++◌, length, take, drop, refl, ap, ◌∙◌, arith, length-append, length-drop, rules}
 use Rattle.ciphers.specs.AesSchedule.{expanded}
-use Rattle.ciphers.proofs.AesWords.{words_none, word_next, words_more, words_all}
+use Rattle.ciphers.proofs.AesWords.{words_none, word_chunked, word_next, words_more, words_all}
 use Rattle.ciphers.proofs.aes.schedule.expand.Goals as goal
 
 pub loop-i-init : goal.loop-i-init
@@ -18,7 +18,9 @@ loop-i-preserved c =
     let l : length c.args.key.now ≡ 4 * (length c.args.key.now / 4) = search rules in
     let k : 4 * c.loop-i.i + 4 - 4 * c.loop-i.i ≡ 4 = omega arith in
     words_more nk key p l c.loop-i.i _ old c.loop-i.schedule c.copy_from_slice-in-loop-i.new.self (search rules) k
-    (c.copy_from_slice-in-loop-i.ensures.after ∙ c.next_word-next.ensures ∙ word_next nk key p l c.loop-i.i old c.loop-i.schedule _ (search rules) refl c.loop-i.invariant)
+    (c.copy_from_slice-in-loop-i.ensures.after ∙ c.next_word-next.ensures
+    ∙ word_chunked nk (take (4 * c.loop-i.i) c.loop-i.schedule) c.as_chunks.result.0.now p (search rules) c.as_chunks.ensures.front c.as_chunks.ensures.front_len
+    ∙ word_next nk key p l c.loop-i.i old c.loop-i.schedule _ (search rules) refl c.loop-i.invariant)
     c.loop-i.invariant
 
 pub returns : goal.returns

@@ -1,13 +1,8 @@
-use Rattle.std.proofs.Common.{◌*◌, ◌%◌, get_or, ◌∙◌, arith, rules}
-use Rattle.ciphers.specs.AesField.{inv_substitution}
-use Rattle.ciphers.proofs.AesLoops.{inv_shift_sub_lem, filled_more, filled_all}
+use Rattle.std.proofs.Common.{◌∙◌, rules}
+use Rattle.ciphers.specs.AesTables.{inv_substitution_table}
+use Rattle.ciphers.proofs.AesLoops.{looked_up_back}
 use Rattle.ciphers.proofs.aes.steps.inv_shift_sub.Goals as goal
 
-pub loop-i-init : goal.loop-i-init
-loop-i-init c = λ k h. absurd (omega arith)
-
-pub loop-i-preserved : goal.loop-i-preserved
-loop-i-preserved c = filled_more (λ k. inv_substitution (get_or c.args.from.now (13 * k % 16) 0)) c.loop-i.to c.loop-i.i _ (search rules) (search rules) c.loop-i.invariant
-
 pub returns : goal.returns
-returns c = filled_all (λ k. inv_substitution (get_or c.args.from.now (13 * k % 16) 0)) c.loop-i.to c.loop-i.i (search rules) (search rules) c.loop-i.invariant ∙ inv_shift_sub_lem c.args.from.now
+unfolding inv_substitution_table
+returns c = c.looked_up.ensures ∙ looked_up_back c.args.block (λ i. search rules)

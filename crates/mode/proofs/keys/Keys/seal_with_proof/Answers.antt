@@ -10,9 +10,10 @@ pub returns : goal.returns
 returns g c =
     let m : List ℕ = c.args.message.now in
     let k : put_mid (length m - 16) (length m - (length m - 16)) m c.wipe.new.s ≡ spare_zeroed m = wiped_spare m c.wipe.new.s (search rules) c.wipe.ensures in
+    let parts = c.in_ok-bound.ensures.parts in
     record {
       answer = search rules;
-      after = c.seal_checked.ensures.after
+      after = rw (parts.0, parts.1) at c.seal_bound.ensures.after
           ∙ ap (sealed_under g.C.BlockCipher.forward g.C.BlockCipher.key_length (bundle_of g.C.BlockCipher.key_of c.args.self.now) c.args.nonce.now c.args.ad.now) k;
-      back = c.seal_checked.ensures.back ∙ k;
+      back = rw (parts.0, parts.1) at c.seal_bound.ensures.back ∙ k;
     }

@@ -1,6 +1,0 @@
-use Rattle.std.proofs.Common.{◌≡◌, ◌*◌, ◌++◌, drop}
-use Rattle.base.specs.Blocks.{blocks_joined, block_at}
-use Rattle.mode.proofs.enciphering.all_forward.Given as goal
-
-abbrev pub invariant-loop-i : goal.invariant-loop-i
-invariant-loop-i g l = l.message ≡ blocks_joined (λ j. g.C.BlockCipher.forward (g.C.BlockCipher.key_of l.cipher) (block_at j l.initial.message)) l.i ++ drop (l.i * 16) l.initial.message
