@@ -5,4 +5,6 @@
 pub const BUNDLE: usize = 48;
 
 #[cfg(test)]
+mod lists;
+#[cfg(test)]
 mod piles;

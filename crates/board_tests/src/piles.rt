@@ -1,7 +1,8 @@
 // A board over a board over a chain.
+use crate::lists::work_by_list;
 use base::Refusal;
 use boards::{Board, Ready};
-use chain::Chain;
+use chain::{Chain, Layout};
 use ciphers::{Aes128, Speck128};
 use devices::SlotDevice;
 use std::process::Abort;
@@ -26,7 +27,7 @@ fn work_on<D: SlotDevice>(rt: &impl Abort, device: &mut D) -> Result<(), Fail> {
     Ok(())
 }
 
-fn pile<D: SlotDevice + Drop>(rt: &impl Abort, device: D) -> Result<(), Fail> {
+fn pile<D: SlotDevice + Drop>(rt: &(impl Abort + AllocGlobal), device: D) -> Result<(), Fail> {
     let lower = Ready::<Speck128>::prepare(&[1u8; 48], b"lower")?;
     let upper = Ready::<Aes128>::prepare(&[2u8; 48], b"upper")?;
     let mut board = Board::open(upper, Board::open(lower, device));
@@ -39,14 +40,19 @@ fn pile<D: SlotDevice + Drop>(rt: &impl Abort, device: D) -> Result<(), Fail> {
         buffer[30] != 7 || buffer[29] != 7 || buffer[28] != 7,
         "below, the row is sealed"
     );
-    Ok(())
+    work_by_list(rt, device)
 }
 
 #[test]
 fn board_on_board_on_chain(rt: HostRuntime) -> Result<(), Fail> {
     let mut memory = [0u8; 98];
-    Chain::check(&memory, 2, 70, 3)?;
-    pile(&rt, Chain::attach(&mut memory, 2, 70, 3))
+    let layout = Layout {
+        slots: 2,
+        longest: 70,
+        cells: 3,
+    };
+    Chain::check(&memory, layout)?;
+    pile(&rt, Chain::attach(&mut memory, layout))
 }
 
 #[test]

@@ -1,12 +1,17 @@
 -- The answers of a board are those of its device: its rows are as long as what is held.
-use Rattle.std.proofs.Common.{◌≡◌, ℕ, suc, ◌+◌, ◌<◌, ◌≤◌, false, List, [], ◌∷◌, ◌++◌, length, get_or, take, drop, set, Ok, Err, fold, sym, refl, ap, ◌∙◌, arith}
+use Rattle.std.proofs.Common.{◌≡◌, ℕ, suc, ◌+◌, ◌<◌, ◌≤◌, false, List, [], ◌∷◌, ◌++◌, length, get_or, take, drop, set, Ok, Err, fold, sym, refl, ap, ◌∙◌, subst, arith}
 use Rattle.std.proofs.lemmas.List.{take_at, drop_at}
 use Rattle.base.specs.Bytes.{AllBytes}
 use Rattle.devices.specs.Slots.{Slot, nothing, row, Shape, units_in, units_held, units_of_others, RowFits, Sound}
 use Rattle.devices.specs.Answers.{Answer, is_nothing, bytes_in, bytes_at, write_answer, held_after_write, read_answer, clear_answer, held_after_clear, length_answer}
+use Rattle.boards.specs.Kinds.{StringOf}
 use Rattle.boards.specs.Through.{on_row, through_from, through, as_long_as, keeping_length}
 use Rattle.boards.specs.Soundness.{get_or_through, as_long}
 use Rattle.boards.proofs.Rows.{set_through, as_is}
+
+-- what a read leaves in the buffer's first bytes
+pub read_front : (h : List Slot) (n len m : ℕ) (buf b : List ℕ) → m ≡ len → len ≡ length (bytes_at h n) → b ≡ bytes_at h n ++ drop len buf → take m b ≡ bytes_at h n
+read_front h n len m buf b em el eb = ap (take m) eb ∙ take_at (bytes_at h n) (drop len buf) m (sym (em ∙ el))
 
 module _ (f : ℕ → List ℕ → List ℕ) where
   units_from : (s : Shape) (n a : ℕ) (xs : List Slot) → fold (λ b x. b + units_in s x) a (through_from (keeping_length f) n xs) ≡ fold (λ b x. b + units_in s x) a xs
@@ -30,10 +35,10 @@ module _ (f : ℕ → List ℕ → List ℕ) where
   long_on n nothing = refl
   long_on n (row r) = as_long r (f n r)
 
-  pub nothing_through : (xs : List Slot) (n : ℕ) → is_nothing (get_or (through (keeping_length f) xs) n nothing) ≡ is_nothing (get_or xs n nothing)
+  nothing_through : (xs : List Slot) (n : ℕ) → is_nothing (get_or (through (keeping_length f) xs) n nothing) ≡ is_nothing (get_or xs n nothing)
   nothing_through xs n = ap is_nothing (get_or_through (keeping_length f) xs n) ∙ nothing_on n (get_or xs n nothing)
 
-  pub long_through : (xs : List Slot) (n : ℕ) → length (bytes_at (through (keeping_length f) xs) n) ≡ length (bytes_at xs n)
+  long_through : (xs : List Slot) (n : ℕ) → length (bytes_at (through (keeping_length f) xs) n) ≡ length (bytes_at xs n)
   long_through xs n = ap (λ (x : Slot). length (bytes_in x)) (get_or_through (keeping_length f) xs n) ∙ long_on n (get_or xs n nothing)
 
   pub write_through : (s : Shape) (xs : List Slot) (n len : ℕ) → write_answer s (through (keeping_length f) xs) n len ≡ write_answer s xs n len
@@ -73,21 +78,21 @@ module _ (f : ℕ → List ℕ → List ℕ) where
   pub read_opened : (h : List Slot) (n len m : ℕ) (buf b o : List ℕ) → m ≡ len → len ≡ length (bytes_at h n) → length o ≡ length (take m b) → AllBytes o → is_nothing (get_or h n nothing) ≡ false →
       b ≡ bytes_at h n ++ drop len buf → o ≡ f n (take m b) → o ++ drop m b ≡ bytes_at (through (keeping_length f) h) n ++ drop len buf
   read_opened h n len m buf b o em el long fit some eb eo =
-      let front : take m b ≡ bytes_at h n = ap (take m) eb ∙ take_at (bytes_at h n) (drop len buf) m (sym (em ∙ el)) in
+      let front = read_front h n len m buf b em el eb in
       let rest : drop m b ≡ drop len buf = ap (drop m) eb ∙ drop_at (bytes_at h n) (drop len buf) m (sym (em ∙ el)) in
       let opened : o ≡ f n (bytes_at h n) = eo ∙ ap (f n) front in
       let is : bytes_at (through (keeping_length f) h) n ≡ o = ap bytes_in (get_or_through (keeping_length f) h n) ∙ on-bytes (get_or h n nothing) some opened (long ∙ ap length front) in
       ap (λ (t : List ℕ). t ++ drop m b) (sym is) ∙ ap (λ (t : List ℕ). bytes_at (through (keeping_length f) h) n ++ t) rest where
         on-bytes : (x : Slot) → is_nothing x ≡ false → o ≡ f n (bytes_in x) → length o ≡ length (bytes_in x) → bytes_in (on_row (keeping_length f n) x) ≡ o
-        on-bytes nothing e eq l = let z : ◌≡◌ {A = ℕ} 0 1 = cc in absurd (omega arith)
+        on-bytes nothing e eq l = cc
         on-bytes (row r) e eq l = ap (as_long_as r) (sym eq) ∙ as_is r o l fit
 
 pub read_ok : (s : Shape) (h : List Slot) (n room len : ℕ) → Ok len ≡ read_answer s h n room → (n < s.slots) × (is_nothing (get_or h n nothing) ≡ false) × (len ≡ length (bytes_at h n)) × (len ≤ room)
 read_ok s h n room len e = grind arith
 
--- a row that is there is within the limits
-pub row_there : (s : Shape) (h : List Slot) (n : ℕ) → Sound s h → n < s.slots → is_nothing (get_or h n nothing) ≡ false → (16 ≤ length (bytes_at h n)) × (length (bytes_at h n) ≤ 1000) × AllBytes (bytes_at h n)
-row_there s h n sound lt some = there (get_or h n nothing) some (sound.rows n lt) where
-  there : (x : Slot) → is_nothing x ≡ false → RowFits s x → (16 ≤ length (bytes_in x)) × (length (bytes_in x) ≤ 1000) × AllBytes (bytes_in x)
-  there nothing e fit = let z : ◌≡◌ {A = ℕ} 0 1 = cc in absurd (omega arith)
-  there (row r) e fit = (fit.0, omega (arith, fit.1, sound.longest_high), fit.2)
+-- a row that was read is within the limits
+pub row_read : (s : Shape) (h : List Slot) (n m : ℕ) (b : List ℕ) → Sound s h → n < s.slots → is_nothing (get_or h n nothing) ≡ false → take m b ≡ bytes_at h n → StringOf 16 1000 (take m b)
+row_read s h n m b sound lt some front = subst (StringOf 16 1000) (sym front) (there (get_or h n nothing) some (sound.rows n lt)) where
+  there : (x : Slot) → is_nothing x ≡ false → RowFits s x → StringOf 16 1000 (bytes_in x)
+  there nothing e fit = cc
+  there (row r) e fit = record { low = fit.0; high = omega (arith, fit.1, sound.longest_high); fit = fit.2 }

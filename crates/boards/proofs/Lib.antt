@@ -3,7 +3,6 @@ pub mod Rows
 pub mod ModeFacts
 pub mod Layers
 pub mod RowSealing
-pub mod CallFacts
 pub mod StepFacts
 pub mod ListFacts
 pub mod Alike

@@ -1,8 +1,9 @@
 -- What slots hold, through a function and back.
-use Rattle.std.proofs.Common.{◌≡◌, ℕ, zero, suc, ◌+◌, ◌%◌, ◌<◌, ◌≤◌, List, [], ◌∷◌, length, get_or, set, sym, refl, ap, ◌∙◌, subst, arith}
+use Rattle.std.proofs.Common.{◌≡◌, ℕ, zero, suc, ◌+◌, ◌%◌, ◌<◌, List, [], ◌∷◌, length, get_or, set, sym, refl, ap, ◌∙◌, subst, arith}
 use Rattle.std.proofs.lemmas.List.{ext_get_or}
 use Rattle.base.specs.Bytes.{AllBytes}
 use Rattle.devices.specs.Slots.{Slot, nothing, row, Shape, RowFits, Sound}
+use Rattle.boards.specs.Kinds.{StringOf}
 use Rattle.boards.specs.Through.{on_row, through_from, through, as_long_as}
 use Rattle.boards.specs.Soundness.{length_through, get_or_through}
 
@@ -10,8 +11,8 @@ use Rattle.boards.specs.Soundness.{length_through, get_or_through}
 pub as_is : (r xs : List ℕ) → length xs ≡ length r → AllBytes xs → as_long_as r xs ≡ xs
 unfolding as_long_as
 as_is [] [] l fit = refl
-as_is [] (y ∷ xs) l fit = let z : ◌≡◌ {A = ℕ} 0 1 = omega arith in absurd (omega arith)
-as_is (x ∷ r) [] l fit = let z : ◌≡◌ {A = ℕ} 0 1 = omega arith in absurd (omega arith)
+as_is [] (y ∷ xs) l fit = absurd (omega arith)
+as_is (x ∷ r) [] l fit = absurd (omega arith)
 as_is (x ∷ r) (y ∷ xs) l fit =
     let h : y % 256 ≡ y = omega (arith, fit 0) in
     ap (λ (a : ℕ). a ∷ as_long_as r xs) h ∙ ap (λ (t : List ℕ). y ∷ t) (as_is r xs (omega arith) (λ i. fit (suc i)))
@@ -30,7 +31,7 @@ pub on_alike : (f g : List ℕ → List ℕ) (x : Slot) → ((r : List ℕ) → 
 on_alike f g nothing h = refl
 on_alike f g (row r) h = ap (λ (q : List ℕ). row q) (h r refl)
 
-pub on_twice : (f g : List ℕ → List ℕ) (x : Slot) → ((r : List ℕ) → x ≡ row r → g (f r) ≡ r) → on_row g (on_row f x) ≡ x
+on_twice : (f g : List ℕ → List ℕ) (x : Slot) → ((r : List ℕ) → x ≡ row r → g (f r) ≡ r) → on_row g (on_row f x) ≡ x
 on_twice f g nothing h = refl
 on_twice f g (row r) h = ap (λ (q : List ℕ). row q) (h r refl)
 
@@ -53,7 +54,7 @@ through_same xs = ext_get_or nothing (through (λ n r. r) xs) xs (length_through
   on_same (row r) = refl
 
 -- a row that is held is within the limits
-pub held_row : (s : Shape) (xs : List Slot) (n : ℕ) (r : List ℕ) → Sound s xs → n < length xs → get_or xs n nothing ≡ row r → (16 ≤ length r) × (length r ≤ 1000) × AllBytes r
+pub held_row : (s : Shape) (xs : List Slot) (n : ℕ) (r : List ℕ) → Sound s xs → n < length xs → get_or xs n nothing ≡ row r → StringOf 16 1000 r
 held_row s xs n r sound lt e =
     let h : RowFits s (row r) = subst (RowFits s) e (sound.rows n (omega (arith, sound.count))) in
-    (h.0, omega (arith, h.1, sound.longest_high), h.2)
+    record { low = h.0; high = omega (arith, h.1, sound.longest_high); fit = h.2 }

@@ -1,9 +1,12 @@
 -- One call on a screen, seen from the plain board.
-use Rattle.std.proofs.Common.{◌≡◌, ℕ, ◌<◌, Bool, true, false, cond, ◌&&◌, eqb, List, [], ◌∷◌, length, get_or, is_ok, Some, None, vec_items, Option, Vec, sym, refl, ap, ◌∙◌, subst, arith}
+use Rattle.std.proofs.Common.{◌≡◌, ℕ, Bool, true, false, cond, List, [], length, is_ok, Some, None, Ok, vec_items, Option, Vec, sym, refl, ap, ◌∙◌, subst, arith}
+use Rattle.std.specs.Cmp.{first_so, second_so}
+use Rattle.std.specs.Str.{bytes_eq}
+use Rattle.std.proofs.lemmas.Slice.Eq.{bytes_eq-Decides}
 use Rattle.base.specs.Bytes.{AllBytes}
 use Rattle.ciphers.specs.declared.cipher.BlockCipher.{Ghosts as Cipher}
 use Rattle.mode.specs.Bundles.{opened_under}
-use Rattle.devices.specs.Slots.{Slot, nothing, row, Shape, Sound}
+use Rattle.devices.specs.Slots.{Slot, Shape, Sound}
 use Rattle.devices.specs.Answers.{Answer}
 use Rattle.devices.specs.declared.device.SlotDevice.{Ghosts as Device}
 use Rattle.boards.specs.declared.ready.Ready.{Ready}
@@ -13,7 +16,7 @@ use Rattle.boards.specs.declared.runs.Screen.TheVariants as screen
 use Rattle.boards.specs.declared.calls.Call.{Call}
 use Rattle.boards.specs.declared.calls.Call.TheVariants.{Open, Write, Read, Clear, Length, Fits, Find, Shut}
 use Rattle.boards.specs.declared.calls.Reply.{Reply}
-use Rattle.boards.specs.declared.calls.Reply.TheVariants.{Accepted}
+use Rattle.boards.specs.declared.calls.Reply.TheVariants as replied
 use Rattle.std.specs.declared.alloc.Global.{Global}
 use Rattle.boards.specs.Through.{through, as_long_as, keeping_length}
 use Rattle.boards.specs.Soundness.{sound_through}
@@ -21,8 +24,8 @@ use Rattle.boards.specs.Contexts.{Context, context_of}
 use Rattle.boards.specs.Kinds.{StringOf, Admitted, OpensSealed, SealsOpened}
 use Rattle.boards.specs.Modes.{sealed_row, opened_row, mode_kind}
 use Rattle.boards.specs.Readiness.{ReadyWith, opened_by, board_rows}
-use Rattle.boards.specs.Plain.{Plain, replied, seal_under, same_bytes, is_under, rows_opened, rows_after, stays_open, next, MayOpen, May}
-use Rattle.boards.specs.Screens.{behind, shows_open, OpenUnder, Stands, Shown}
+use Rattle.boards.specs.Plain.{Plain, seal_under, is_under, rows_opened, rows_after, stays_open, next, MayOpen, May}
+use Rattle.boards.specs.Screens.{behind, shows_open, OpenUnder, Stands, Shown, Stepped}
 use Rattle.boards.proofs.Labels.{context_padded, unpadded_bytes}
 use Rattle.boards.proofs.Rows.{as_is, through_alike, through_back, held_row}
 use Rattle.boards.proofs.ModeFacts.{CipherFacts, opening_ok, opens_sealed, seals_opened, bundle_bytes, ready_opens}
@@ -36,22 +39,6 @@ stays (Length slot) h = refl
 stays (Fits slot len) h = refl
 stays (Find front work) h = refl
 stays Shut h = absurd (h refl)
-
--- strings with the same bytes are the same
-pub same_bytes_lem : (xs ys : List ℕ) → same_bytes xs ys ≡ true → xs ≡ ys
-same_bytes_lem [] [] e = refl
-same_bytes_lem [] (y ∷ ys) e = let z : ◌≡◌ {A = ℕ} 0 1 = cc in absurd (omega arith)
-same_bytes_lem (x ∷ xs) [] e = let z : ◌≡◌ {A = ℕ} 0 1 = cc in absurd (omega arith)
-same_bytes_lem (x ∷ xs) (y ∷ ys) e =
-    let p = both (eqb x y) (same_bytes xs ys) e in
-    let h : x ≡ y = grind (arith, p.0) in
-    ap (λ (a : ℕ). a ∷ xs) h ∙ ap (λ (t : List ℕ). y ∷ t) (same_bytes_lem xs ys p.1) where
-      both : (a b : Bool) → (a && b) ≡ true → (a ≡ true) × (b ≡ true)
-      both true b e = (refl, e)
-      both false b e = let z : ◌≡◌ {A = ℕ} 0 1 = cc in absurd (omega arith)
-
-string_of : (s : Shape) (xs : List Slot) (n : ℕ) (r : List ℕ) → Sound s xs → n < length xs → get_or xs n nothing ≡ row r → StringOf 16 1000 r
-string_of s xs n r sound lt e = let h = held_row s xs n r sound lt e in record { low = h.0; high = h.1; fit = h.2 }
 
 module _ {C : Type 0} (c : Cipher C) (L : CipherFacts c) (bundle label : List ℕ) (fb : AllBytes bundle) (fl : AllBytes label) (adm : Admitted (mode_kind c) bundle label) where
   S : OpensSealed (mode_kind c) bundle label
@@ -72,31 +59,31 @@ module _ {C : Type 0} (c : Cipher C) (L : CipherFacts c) (bundle label : List �
       ∙ ap (λ (x : Context). opened_under c.forward c.back c.key_length bundle x.nonce x.associated q) (context_padded n label (opening_ok c.key_length bundle label adm).1)
 
   -- rows of a sound device, opened: nothing is cut
-  pub rows_opened_lem : (s : Shape) (held : List Slot) → Sound s held → through (keeping_length (opened_row c bundle label)) held ≡ through (opened_row c bundle label) held
+  rows_opened_lem : (s : Shape) (held : List Slot) → Sound s held → through (keeping_length (opened_row c bundle label)) held ≡ through (opened_row c bundle label) held
   rows_opened_lem s held sound =
       through_alike (keeping_length (opened_row c bundle label)) (opened_row c bundle label) held
-      (λ n q lt e. let h = string_of s held n q sound lt e in as_is q (opened_row c bundle label n q) (long_open n q h) (U.opened_fit n q h))
+      (λ n q lt e. let h = held_row s held n q sound lt e in as_is q (opened_row c bundle label n q) (long_open n q h) (U.opened_fit n q h))
 
-  pub board_opened : (ready : Ready C) → ReadyWith c ready bundle label → (s : Shape) (held : List Slot) → Sound s held → board_rows c ready held ≡ through (opened_row c bundle label) held
+  board_opened : (ready : Ready C) → ReadyWith c ready bundle label → (s : Shape) (held : List Slot) → Sound s held → board_rows c ready held ≡ through (opened_row c bundle label) held
   board_opened ready w s held sound =
       through_alike (keeping_length (opened_by c ready)) (keeping_length (opened_row c bundle label)) held (λ n q lt e. ap (as_long_as q) (opens_as ready w n q))
       ∙ rows_opened_lem s held sound
 
   -- sealed rows open to what they were
-  pub opened_back : (s : Shape) (rows : List Slot) → Sound s rows → through (opened_row c bundle label) (through (sealed_row c bundle label) rows) ≡ rows
-  opened_back s rows sound = through_back (sealed_row c bundle label) (opened_row c bundle label) rows (λ n r lt e. S.opens n r (string_of s rows n r sound lt e))
+  opened_back : (s : Shape) (rows : List Slot) → Sound s rows → through (opened_row c bundle label) (through (sealed_row c bundle label) rows) ≡ rows
+  opened_back s rows sound = through_back (sealed_row c bundle label) (opened_row c bundle label) rows (λ n r lt e. S.opens n r (held_row s rows n r sound lt e))
 
-  pub sealed_back : (s : Shape) (held : List Slot) → Sound s held → through (sealed_row c bundle label) (through (opened_row c bundle label) held) ≡ held
-  sealed_back s held sound = through_back (opened_row c bundle label) (sealed_row c bundle label) held (λ n r lt e. U.seals n r (string_of s held n r sound lt e))
+  sealed_back : (s : Shape) (held : List Slot) → Sound s held → through (sealed_row c bundle label) (through (opened_row c bundle label) held) ≡ held
+  sealed_back s held sound = through_back (opened_row c bundle label) (sealed_row c bundle label) held (λ n r lt e. U.seals n r (held_row s held n r sound lt e))
 
-  pub opened_sound : (s : Shape) (held : List Slot) → Sound s held → Sound s (through (opened_row c bundle label) held)
+  opened_sound : (s : Shape) (held : List Slot) → Sound s held → Sound s (through (opened_row c bundle label) held)
   opened_sound s held sound = subst (Sound s) (rows_opened_lem s held sound) (sound_through s held (opened_row c bundle label) sound)
 
   -- an open board shows the plain rows
-  pub board_shows : (ready : Ready C) → ReadyWith c ready bundle label → (s : Shape) (held rows : List Slot) → Sound s held → Sound s rows → held ≡ through (sealed_row c bundle label) rows → board_rows c ready held ≡ rows
+  board_shows : (ready : Ready C) → ReadyWith c ready bundle label → (s : Shape) (held rows : List Slot) → Sound s held → Sound s rows → held ≡ through (sealed_row c bundle label) rows → board_rows c ready held ≡ rows
   board_shows ready w s held rows sound sound' e = board_opened ready w s held sound ∙ ap (through (opened_row c bundle label)) e ∙ opened_back s rows sound'
 
-  pub board_holds : (ready : Ready C) → ReadyWith c ready bundle label → (s : Shape) (held rows : List Slot) → Sound s held → board_rows c ready held ≡ rows → held ≡ through (sealed_row c bundle label) rows
+  board_holds : (ready : Ready C) → ReadyWith c ready bundle label → (s : Shape) (held rows : List Slot) → Sound s held → board_rows c ready held ≡ rows → held ≡ through (sealed_row c bundle label) rows
   board_holds ready w s held rows sound e = sym (sealed_back s held sound) ∙ ap (through (sealed_row c bundle label)) (sym (board_opened ready w s held sound) ∙ e)
 
 -- the rows of a board are the opened forms: nothing is cut
@@ -104,7 +91,7 @@ pub ready_rows : {C : Type 0} (c : Cipher C) (L : CipherFacts c) (ready : Ready 
 ready_rows c L ready s held sound =
     let V = ready_opens c L ready in
     through_alike (keeping_length (opened_by c ready)) (opened_by c ready) held
-    (λ n q lt e. let h = string_of s held n q sound lt e in as_is q (opened_by c ready n q) (let l = V.opened_long n q h in omega (arith, l)) (V.opened_fit n q h))
+    (λ n q lt e. let h = held_row s held n q sound lt e in as_is q (opened_by c ready n q) (let l = V.opened_long n q h in omega (arith, l)) (V.opened_fit n q h))
 
 module _ {C D : Type 0} (c : Cipher C) (d : Device D) (L : CipherFacts c) (start : List Slot) (s : Shape) where
   -- a call on an open board
@@ -118,7 +105,7 @@ module _ {C D : Type 0} (c : Cipher C) (d : Device D) (L : CipherFacts c) (start
   open_step p b b' call left a same shape held may not shown = go p.is_open p.under p.rows shown where
     go : (u : Bool) (o : Option (List ℕ × List ℕ)) (rows : List Slot) → Shown c d start s (screen.Open b) (record { is_open = u; under = o; rows = rows }) →
         Shown c d start s (screen.Open b') (next (mode_kind c) s (record { is_open = u; under = o; rows = rows }) call) × May (mode_kind c) s (record { is_open = u; under = o; rows = rows }) call left a
-    go false o rows sh = let e = sh.0 in let z : ◌≡◌ {A = ℕ} 0 1 = cc in absurd (omega arith)
+    go false o rows sh = let e = sh.0 in cc
     go true None rows sh = absurd sh.3
     go true (Some u) rows sh =
         let S = sh.2 in
@@ -143,7 +130,7 @@ module _ {C D : Type 0} (c : Cipher C) (d : Device D) (L : CipherFacts c) (start
         )
 
   -- an accepted opening
-  pub opened_stands : (p : Plain) (device : D) (ready : Ready C) (bundle label : List ℕ) → Admitted (mode_kind c) bundle label → ReadyWith c ready bundle label → d.shape device ≡ s → Stands (mode_kind c) start s (d.held device) p →
+  opened_stands : (p : Plain) (device : D) (ready : Ready C) (bundle label : List ℕ) → Admitted (mode_kind c) bundle label → ReadyWith c ready bundle label → d.shape device ≡ s → Stands (mode_kind c) start s (d.held device) p →
       Stands (mode_kind c) start s (d.held device) (record { is_open = true; under = Some (bundle, label); rows = rows_opened (mode_kind c) p bundle label })
   opened_stands p device ready bundle label adm w shape S = go (is_under p.under bundle label) refl where
     fb : AllBytes bundle
@@ -156,13 +143,11 @@ module _ {C D : Type 0} (c : Cipher C) (d : Device D) (L : CipherFacts c) (start
     sound = subst (λ (x : Shape). Sound x (d.held device)) shape (d.sound device)
 
     own : (o : Option (List ℕ × List ℕ)) → is_under o bundle label ≡ true → o ≡ Some (bundle, label)
-    own None e = let z : ◌≡◌ {A = ℕ} 0 1 = cc in absurd (omega arith)
+    own None e = cc
     own (Some u) e =
-        let h = both (same_bytes u.0 bundle) (same_bytes u.1 label) e in
-        ap (λ (x : List ℕ). Some (x, u.1)) (same_bytes_lem u.0 bundle h.0) ∙ ap (λ (x : List ℕ). Some (bundle, x)) (same_bytes_lem u.1 label h.1) where
-          both : (a b : Bool) → (a && b) ≡ true → (a ≡ true) × (b ≡ true)
-          both true b e = (refl, e)
-          both false b e = let z : ◌≡◌ {A = ℕ} 0 1 = cc in absurd (omega arith)
+        let b : u.0 ≡ bundle = (bytes_eq-Decides u.0 bundle).0 (first_so (bytes_eq u.0 bundle) (bytes_eq u.1 label) e) in
+        let l : u.1 ≡ label = (bytes_eq-Decides u.1 label).0 (second_so (bytes_eq u.0 bundle) (bytes_eq u.1 label) e) in
+        ap (λ (x : List ℕ). Some (x, u.1)) b ∙ ap (λ (x : List ℕ). Some (bundle, x)) l
 
     again : List Slot
     again = through (opened_row c bundle label) (through (seal_under (mode_kind c) p.under) p.rows)
@@ -179,19 +164,29 @@ module _ {C D : Type 0} (c : Cipher C) (d : Device D) (L : CipherFacts c) (start
       real = (fb, fl, adm);
     }
 
-  pub opening_step : (p : Plain) (device : D) (b : Board C D) (bundle label : Vec ℕ Global) → Admitted (mode_kind c) (vec_items bundle) (vec_items label) → ReadyWith c b.ready (vec_items bundle) (vec_items label) → b.device ≡ device →
+  opening_shows : (p : Plain) (device : D) (b : Board C D) (bundle label : Vec ℕ Global) → Admitted (mode_kind c) (vec_items bundle) (vec_items label) → ReadyWith c b.ready (vec_items bundle) (vec_items label) → b.device ≡ device →
       Shown c d start s (screen.Shut device) p →
-      Shown c d start s (screen.Open b) (next (mode_kind c) s p (Open bundle label)) × May (mode_kind c) s p (Open bundle label) [] (Accepted 0)
-  opening_step p device b bundle label adm w same shown = go p.is_open p.under p.rows shown where
+      Shown c d start s (screen.Open b) (next (mode_kind c) s p (Open bundle label)) × May (mode_kind c) s p (Open bundle label) [] (replied.Answered (Ok 0))
+  opening_shows p device b bundle label adm w same shown = go p.is_open p.under p.rows shown where
     go : (u : Bool) (o : Option (List ℕ × List ℕ)) (rows : List Slot) → Shown c d start s (screen.Shut device) (record { is_open = u; under = o; rows = rows }) →
-        Shown c d start s (screen.Open b) (next (mode_kind c) s (record { is_open = u; under = o; rows = rows }) (Open bundle label)) × May (mode_kind c) s (record { is_open = u; under = o; rows = rows }) (Open bundle label) [] (Accepted 0)
-    go true o rows sh = let e = sh.0 in let z : ◌≡◌ {A = ℕ} 0 1 = cc in absurd (omega arith)
+        Shown c d start s (screen.Open b) (next (mode_kind c) s (record { is_open = u; under = o; rows = rows }) (Open bundle label)) × May (mode_kind c) s (record { is_open = u; under = o; rows = rows }) (Open bundle label) [] (replied.Answered (Ok 0))
+    go true o rows sh = let e = sh.0 in cc
     go false o rows sh =
         let old : Plain = record { is_open = false; under = o; rows = rows } in
         let new : Plain = record { is_open = true; under = Some (vec_items bundle, vec_items label); rows = rows_opened (mode_kind c) old (vec_items bundle) (vec_items label) } in
         let S : Stands (mode_kind c) start s (d.held b.device) new = subst (λ (x : D). Stands (mode_kind c) start s (d.held x) new) (sym same) (opened_stands old device b.ready (vec_items bundle) (vec_items label) adm w sh.1 sh.2) in
-        subst (λ (x : Answer). Shown c d start s (screen.Open b) (cond (is_ok x) new old) × ((Accepted 0 ≡ replied x) × (◌≡◌ {A = List ℕ} [] []))) (sym adm)
+        subst (λ (x : Answer). Shown c d start s (screen.Open b) (cond (is_ok x) new old) × ((replied.Answered (Ok 0) ≡ replied.Answered x) × (◌≡◌ {A = List ℕ} [] []))) (sym adm)
         ((refl, ap d.shape same ∙ sh.1, S, w), (refl, refl))
+
+pub opening_step : {C D : Type 0} (c : Cipher C) (d : Device D) (L : CipherFacts c) (device : D) (b : Board C D) (bundle label : Vec ℕ Global) →
+    Admitted (mode_kind c) (vec_items bundle) (vec_items label) → ReadyWith c b.ready (vec_items bundle) (vec_items label) → b.device ≡ device →
+    Stepped c d (screen.Shut device) (Open bundle label) (Open bundle label) (screen.Open b) (replied.Answered (Ok 0))
+opening_step c d L device b bundle label adm w same = record {
+  asks_the_same = refl;
+  what_never_changes_is_kept = ap d.fixed same;
+  state_is_kept_where_no_write_or_clear_was_accepted = λ quiet. ap d.state same;
+  shown = λ start s p h. opening_shows c d L start s p device b bundle label adm w same h;
+}
 
 -- what a screen that shows the plain board says of it
 pub shown_says : {C D : Type 0} (c : Cipher C) (d : Device D) (start : List Slot) (s : Shape) (end : Screen C D) (p : Plain) → Shown c d start s end p →

@@ -1,15 +1,16 @@
 -- The plain board: rows in clear, fed the calls' arguments alone.
-use Rattle.std.specs.Prelude.{◌≡◌, ℕ, Bool, true, false, cond, ◌&&◌, List, [], ◌∷◌, length, is_ok, Some, None, Ok, Err, vec_items, MatchBool, Option, Result, ◌==◌, ◌≢◌}
+use Rattle.std.specs.Prelude.{◌≡◌, ℕ, Bool, true, false, cond, ◌&&◌, List, [], ◌∷◌, length, is_ok, Some, None, Ok, vec_items, MatchBool, Option, Result, ◌≢◌}
+use Rattle.std.specs.Str.{bytes_eq}
 use Rattle.base.specs.declared.refusals.Refusal.{Refusal}
 use Rattle.devices.specs.Slots.{Slot, Shape}
-use Rattle.devices.specs.Answers.{Answer, write_answer, held_after_write, row_after_write, read_answer, buffer_after_read, clear_answer, held_after_clear, length_answer}
+use Rattle.devices.specs.Answers.{write_answer, held_after_write, row_after_write, read_answer, buffer_after_read, clear_answer, held_after_clear, length_answer}
 use Rattle.devices.specs.Finding.{FindAnswer, work_after_find}
 use Rattle.boards.specs.Through.{through}
 use Rattle.boards.specs.Kinds.{Kind}
 use Rattle.boards.specs.declared.calls.Call.{Call}
 use Rattle.boards.specs.declared.calls.Call.TheVariants.{Open, Write, Read, Clear, Length, Fits, Find, Shut}
 use Rattle.boards.specs.declared.calls.Reply.{Reply}
-use Rattle.boards.specs.declared.calls.Reply.TheVariants.{OutOfTurn, Accepted, Found, FoundNone, Declined}
+use Rattle.boards.specs.declared.calls.Reply.TheVariants as replied
 use Rattle.boards.specs.declared.calls.Entry.{Entry}
 
 -- ---- a call's arguments, and the bytes that it works on
@@ -38,38 +39,16 @@ asked Shut = shutting
 
 -- the bytes that a call works on: a row to be written, the buffer of a read, the work buffer of a find
 abbrev pub buffer_of : Call → List ℕ
-buffer_of (Open bundle label) = []
 buffer_of (Write slot row) = vec_items row
 buffer_of (Read slot buffer) = vec_items buffer
-buffer_of (Clear slot) = []
-buffer_of (Length slot) = []
-buffer_of (Fits slot len) = []
 buffer_of (Find front work) = vec_items work
-buffer_of Shut = []
-
--- ---- answers as replies
-
--- the answer of a call of a device
-abbrev pub replied : Answer → Reply
-replied (Ok n) = Accepted n
-replied (Err why) = Declined why
-
--- the answer of a find
-abbrev pub replied_found : Result (Option ℕ) Refusal → Reply
-replied_found (Ok (Some n)) = Found n
-replied_found (Ok None) = FoundNone
-replied_found (Err why) = Declined why
+buffer_of _ = []
 
 -- neither an accepted write nor an accepted clear
 abbrev pub Unchanging : Reply → Asked → Type 0
-Unchanging reply (opening bundle label) = Unit {0}
-Unchanging reply (writing slot) = (n : ℕ) → reply ≢ Accepted n
-Unchanging reply (reading slot) = Unit {0}
-Unchanging reply (clearing slot) = (n : ℕ) → reply ≢ Accepted n
-Unchanging reply (measuring slot) = Unit {0}
-Unchanging reply (fitting slot len) = Unit {0}
-Unchanging reply (finding front) = Unit {0}
-Unchanging reply shutting = Unit {0}
+Unchanging reply (writing slot) = (n : ℕ) → reply ≢ replied.Answered (Ok n)
+Unchanging reply (clearing slot) = (n : ℕ) → reply ≢ replied.Answered (Ok n)
+Unchanging reply _ = Unit {0}
 
 -- ---- the plain board
 
@@ -89,17 +68,10 @@ abbrev pub seal_under : Kind → Option (List ℕ × List ℕ) → ℕ → List 
 seal_under k None n r = r
 seal_under k (Some u) n r = k.seal u.0 u.1 n r
 
--- two strings are the same
-abbrev pub same_bytes : List ℕ → List ℕ → Bool
-same_bytes [] [] = true
-same_bytes [] (y ∷ ys) = false
-same_bytes (x ∷ xs) [] = false
-same_bytes (x ∷ xs) (y ∷ ys) = x == y && same_bytes xs ys
-
 -- this bundle and label are the plain board's own
 abbrev pub is_under : Option (List ℕ × List ℕ) → List ℕ → List ℕ → Bool
 is_under None bundle label = false
-is_under (Some u) bundle label = same_bytes u.0 bundle && same_bytes u.1 label
+is_under (Some u) bundle label = bytes_eq u.0 bundle && bytes_eq u.1 label
 
 -- what an accepted opening keeps: the rows as they are where bundle and label are its own; else it is a new plain board,
 -- on the opened rows of what the device then holds
@@ -109,25 +81,14 @@ rows_opened k p bundle label =
 
 -- what an open one keeps after a call
 abbrev pub rows_after : Shape → List Slot → Call → List Slot
-rows_after s rows (Open bundle label) = rows
 rows_after s rows (Write slot row) = held_after_write (write_answer s rows slot (length (vec_items row))) rows slot (vec_items row)
-rows_after s rows (Read slot buffer) = rows
 rows_after s rows (Clear slot) = held_after_clear (clear_answer s rows slot) rows slot
-rows_after s rows (Length slot) = rows
-rows_after s rows (Fits slot len) = rows
-rows_after s rows (Find front work) = rows
-rows_after s rows Shut = rows
+rows_after s rows _ = rows
 
 -- whether it is still open
 abbrev pub stays_open : Call → Bool
-stays_open (Open bundle label) = true
-stays_open (Write slot row) = true
-stays_open (Read slot buffer) = true
-stays_open (Clear slot) = true
-stays_open (Length slot) = true
-stays_open (Fits slot len) = true
-stays_open (Find front work) = true
 stays_open Shut = false
+stays_open _ = true
 
 -- an open one after a call
 abbrev pub after_open : Shape → Plain → Call → Plain
@@ -139,13 +100,7 @@ after_shut k p (Open bundle label) =
     cond (is_ok (k.admits (vec_items bundle) (vec_items label)))
     (record { is_open = true; under = Some (vec_items bundle, vec_items label); rows = rows_opened k p (vec_items bundle) (vec_items label) })
     p
-after_shut k p (Write slot row) = p
-after_shut k p (Read slot buffer) = p
-after_shut k p (Clear slot) = p
-after_shut k p (Length slot) = p
-after_shut k p (Fits slot len) = p
-after_shut k p (Find front work) = p
-after_shut k p Shut = p
+after_shut k p _ = p
 
 -- the plain board after a call, and after a list of them
 abbrev pub next : Kind → Shape → Plain → Call → Plain
@@ -159,37 +114,31 @@ after k s p (e ∷ es) = after k s (next k s p e.call) es
 
 -- passed over: that is said, and nothing is changed
 abbrev pub PassedOver : Call → List ℕ → Reply → Type 0
-PassedOver call left reply = (reply ≡ OutOfTurn) × (left ≡ buffer_of call)
+PassedOver call left reply = (reply ≡ replied.OutOfTurn) × (left ≡ buffer_of call)
 
 -- an open one, by the rows that it keeps
 abbrev pub MayOpen : Shape → List Slot → Call → List ℕ → Reply → Type 0
 MayOpen s rows (Open bundle label) left reply = PassedOver (Open bundle label) left reply
 MayOpen s rows (Write slot row) left reply =
-    (reply ≡ replied (write_answer s rows slot (length (vec_items row)))) ×
+    (reply ≡ replied.Answered (write_answer s rows slot (length (vec_items row)))) ×
     (left ≡ row_after_write (write_answer s rows slot (length (vec_items row))) (vec_items row))
 MayOpen s rows (Read slot buffer) left reply =
-    (reply ≡ replied (read_answer s rows slot (length (vec_items buffer)))) ×
+    (reply ≡ replied.Answered (read_answer s rows slot (length (vec_items buffer)))) ×
     (left ≡ buffer_after_read (read_answer s rows slot (length (vec_items buffer))) rows slot (vec_items buffer))
-MayOpen s rows (Clear slot) left reply = (reply ≡ replied (clear_answer s rows slot)) × (left ≡ [])
-MayOpen s rows (Length slot) left reply = (reply ≡ replied (length_answer s rows slot)) × (left ≡ [])
-MayOpen s rows (Fits slot len) left reply = (reply ≡ replied (write_answer s rows slot len)) × (left ≡ [])
+MayOpen s rows (Clear slot) left reply = (reply ≡ replied.Answered (clear_answer s rows slot)) × (left ≡ [])
+MayOpen s rows (Length slot) left reply = (reply ≡ replied.Answered (length_answer s rows slot)) × (left ≡ [])
+MayOpen s rows (Fits slot len) left reply = (reply ≡ replied.Answered (write_answer s rows slot len)) × (left ≡ [])
 MayOpen s rows (Find front work) left reply =
     (answer : Result (Option ℕ) Refusal) ×
     FindAnswer s rows (vec_items front) (length (vec_items work)) answer ×
-    (reply ≡ replied_found answer) ×
+    (reply ≡ replied.Found answer) ×
     (left ≡ work_after_find s answer (vec_items work))
-MayOpen s rows Shut left reply = (reply ≡ Accepted 0) × (left ≡ [])
+MayOpen s rows Shut left reply = (reply ≡ replied.Answered (Ok 0)) × (left ≡ [])
 
 -- a shut one
 abbrev pub MayShut : Kind → Call → List ℕ → Reply → Type 0
-MayShut k (Open bundle label) left reply = (reply ≡ replied (k.admits (vec_items bundle) (vec_items label))) × (left ≡ [])
-MayShut k (Write slot row) left reply = PassedOver (Write slot row) left reply
-MayShut k (Read slot buffer) left reply = PassedOver (Read slot buffer) left reply
-MayShut k (Clear slot) left reply = PassedOver (Clear slot) left reply
-MayShut k (Length slot) left reply = PassedOver (Length slot) left reply
-MayShut k (Fits slot len) left reply = PassedOver (Fits slot len) left reply
-MayShut k (Find front work) left reply = PassedOver (Find front work) left reply
-MayShut k Shut left reply = PassedOver Shut left reply
+MayShut k (Open bundle label) left reply = (reply ≡ replied.Answered (k.admits (vec_items bundle) (vec_items label))) × (left ≡ [])
+MayShut k call left reply = PassedOver call left reply
 
 -- any one, open or shut
 abbrev pub May : Kind → Shape → Plain → Call → List ℕ → Reply → Type 0

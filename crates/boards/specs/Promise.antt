@@ -1,17 +1,17 @@
 -- What a list of calls on one screen shows, and what two lists on two screens show.
-use Rattle.std.specs.Prelude.{◌≡◌, ℕ, ◌+◌, List, length, slice_index_or}
+use Rattle.std.specs.Prelude.{◌≡◌, ℕ, ◌+◌, List, length, slice_index_or, Ok}
 use Rattle.std.specs.List.{AllByRecursion}
 use Rattle.base.specs.Bytes.{AllBytes}
 use Rattle.devices.specs.Slots.{Slot, nothing, Sound}
 use Rattle.ciphers.specs.declared.cipher.BlockCipher.{Ghosts as Cipher}
 use Rattle.devices.specs.declared.device.SlotDevice.{Ghosts as Device}
 use Rattle.boards.specs.declared.calls.Reply.{Reply}
-use Rattle.boards.specs.declared.calls.Reply.TheVariants.{Accepted}
+use Rattle.boards.specs.declared.calls.Reply.TheVariants as replied
 use Rattle.boards.specs.declared.calls.Entry.{Entry}
 use Rattle.boards.specs.declared.runs.Screen.{Screen}
 use Rattle.boards.specs.Through.{on_row}
 use Rattle.boards.specs.Kinds.{Kind, StringOf, RowOf, Admitted}
-use Rattle.boards.specs.Plain.{Asked, opening, writing, reading, clearing, measuring, fitting, finding, shutting, asked, Unchanging, Plain, Answered, after, unopened, seal_under}
+use Rattle.boards.specs.Plain.{Asked, opening, asked, Unchanging, Plain, Answered, after, unopened, seal_under}
 use Rattle.boards.specs.Screens.{behind, shows_open, AcceptedOrUnopened, OpenUnder}
 
 -- what the device of a screen holds in a slot
@@ -46,14 +46,8 @@ Empty d device = (n : ℕ) → slice_index_or (d.held device) n nothing ≡ noth
 
 -- an opening that was accepted used this bundle and label
 abbrev pub OpeningUsed : List ℕ → List ℕ → Reply → Asked → Type 0
-OpeningUsed bundle label reply (opening b l) = (n : ℕ) → reply ≡ Accepted n → (b ≡ bundle) × (l ≡ label)
-OpeningUsed bundle label reply (writing slot) = Unit {0}
-OpeningUsed bundle label reply (reading slot) = Unit {0}
-OpeningUsed bundle label reply (clearing slot) = Unit {0}
-OpeningUsed bundle label reply (measuring slot) = Unit {0}
-OpeningUsed bundle label reply (fitting slot len) = Unit {0}
-OpeningUsed bundle label reply (finding front) = Unit {0}
-OpeningUsed bundle label reply shutting = Unit {0}
+OpeningUsed bundle label reply (opening b l) = (n : ℕ) → reply ≡ replied.Answered (Ok n) → (b ≡ bundle) × (l ≡ label)
+OpeningUsed bundle label reply _ = Unit {0}
 
 -- every accepted opening of a list that was run used this bundle and label
 abbrev pub OpeningsUsed : List ℕ → List ℕ → List Entry → Type 0

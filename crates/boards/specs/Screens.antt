@@ -11,7 +11,9 @@ use Rattle.boards.specs.Through.{through}
 use Rattle.boards.specs.Kinds.{Kind, Admitted}
 use Rattle.boards.specs.Modes.{mode_kind}
 use Rattle.boards.specs.Readiness.{ReadyWith}
-use Rattle.boards.specs.Plain.{Plain, seal_under}
+use Rattle.boards.specs.declared.calls.Call.{Call}
+use Rattle.boards.specs.declared.calls.Reply.{Reply}
+use Rattle.boards.specs.Plain.{Plain, seal_under, asked, buffer_of, Unchanging, next, May}
 
 -- the device of a screen, whether a board is open over it or none
 abbrev pub behind : {C D : Type 0} → Screen C D → D
@@ -50,3 +52,10 @@ Shown c d start s (screen.Shut device) p =
     (p.is_open ≡ false) × (d.shape device ≡ s) × Stands (mode_kind c) start s (d.held device) p
 Shown c d start s (screen.Open board) p =
     (p.is_open ≡ true) × (d.shape board.device ≡ s) × Stands (mode_kind c) start s (d.held board.device) p × ReadyUnder c board.ready p.under
+
+-- one call on a screen: `done` is the call as it is left, and `then` the screen after it
+pub record Stepped {C D : Type 0} (c : Cipher C) (d : Device D) (was : Screen C D) (call done : Call) (then : Screen C D) (reply : Reply) : Type 0 where
+  pub asks_the_same : asked done ≡ asked call
+  pub what_never_changes_is_kept : d.fixed (behind then) ≡ d.fixed (behind was)
+  pub state_is_kept_where_no_write_or_clear_was_accepted : Unchanging reply (asked call) → d.state (behind then) ≡ d.state (behind was)
+  pub shown : (start : List Slot) (s : Shape) (p : Plain) → Shown c d start s was p → Shown c d start s then (next (mode_kind c) s p call) × May (mode_kind c) s p call (buffer_of done) reply

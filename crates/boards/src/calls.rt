@@ -15,22 +15,20 @@ pub enum Call {
 }
 
 // What a call was answered.
-#[derive(Clone, Copy)]
+#[derive(Clone, Copy, PartialEq, Eq, Debug)]
 pub enum Reply {
     // passed over: an opening while a board is open, or another call while none is
     OutOfTurn,
-    // accepted, with the number that the call answers
-    Accepted(usize),
-    // a slot that was found
-    Found(usize),
-    // no slot was found
-    FoundNone,
-    Declined(Refusal),
+    // the call's own answer
+    Answered(Result<usize, Refusal>),
+    // the answer of a find: the slot that was found, or none
+    Found(Result<Option<usize>, Refusal>),
 }
 
 // A call of a list, and its answer once the list has been run.
 #[derive(Drop)]
 pub struct Entry {
     pub call: Call,
+    // OutOfTurn until then: an Option would give who reads a list that was run a case that never occurs
     pub reply: Reply,
 }

@@ -16,11 +16,13 @@ pub(crate) struct Label {
     ghost formed: { (length bytes ≡ 12) × AllBytes bytes },
 }
 
-impl Label {
+impl TryFrom<&[u8]> for Label {
+    type Error = Refusal;
+
+    ghost try_from_gives = { λ label result. MatchResult result (λ l. (length label.now ≤ label_limit) × (l.bytes ≡ padded_label label.now)) (λ why. (label_limit < length label.now) × (why ≡ ContextTooLong)) };
+
     // The label, or ContextTooLong.
-    pub(crate) fn new(label: &[u8]) -> Result<Label, Refusal>
-        ensures { MatchResult result (λ l. (length label.now ≤ label_limit) × (l.bytes ≡ padded_label label.now)) (λ why. (label_limit < length label.now) × (why ≡ ContextTooLong)) }
-    {
+    fn try_from(label: &[u8]) -> Result<Label, Refusal> {
         if label.len() > LABEL_LIMIT {
             return Err(Refusal::ContextTooLong);
         }
@@ -28,7 +30,9 @@ impl Label {
         bytes[..label.len()].copy_from_slice(label);
         Ok(Label { bytes })
     }
+}
 
+impl Label {
     // The nonce of a slot: its number in four bytes, the lowest first, and the label.
     pub(crate) fn nonce(&self, slot: usize) -> [u8; 16]
         requires { slot < 64 }

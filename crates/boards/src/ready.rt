@@ -1,6 +1,9 @@
 // Keys and label ready for use: what opening a board checks, and sealing and opening the row of a slot.
-ghost use Rattle.std.specs.Prelude.{◌≡◌, ◌<◌, ◌≤◌, length};
+ghost use Rattle.std.specs.Prelude.{◌≡◌, ◌<◌};
 ghost use Rattle.base.specs.Bytes.{AllBytes};
+ghost use Rattle.devices.specs.Limits.{most_slots};
+ghost use Rattle.boards.specs.Kinds.{RowOf};
+ghost use Rattle.boards.specs.Modes.{mode_kind};
 ghost use Rattle.boards.specs.Readiness.{Prepared, sealed_by, opened_by};
 
 use crate::label::Label;
@@ -15,15 +18,6 @@ pub struct Ready<C: BlockCipher> {
     label: Label,
 }
 
-fn pass_on(_row: &[u8]) {}
-
-// Does nothing; it tells that a row's bytes are bytes, which passing it on brings out.
-fn note_bytes(row: &[u8])
-    ensures { AllBytes row.now }
-{
-    pass_on(row);
-}
-
 impl<C: BlockCipher> Ready<C> {
     // Checks what a board is to be opened with: the bundle, or WrongKeyLength, then the label, or ContextTooLong.
     pub fn prepare(bundle: &[u8], label: &[u8]) -> Result<Ready<C>, Refusal>
@@ -32,30 +26,31 @@ impl<C: BlockCipher> Ready<C> {
         ensures { Prepared C.BlockCipher bundle.now label.now result }
     {
         let keys = Keys::<C>::from_bundle(bundle)?;
-        let label = Label::new(label)?;
+        let label = Label::try_from(label)?;
         Ok(Ready { keys, label })
     }
 
-    // Seals a row of the slot where it lies; opening it gives it back.
+    // Seals a row of the slot where it lies; opening it gives it back. Apart from `open_row`, since each states something else.
     pub(crate) fn seal_row(&self, slot: usize, row: &mut [u8])
-        requires { (slot < 64) × ((16 ≤ length row.old) × (length row.old ≤ 1000)) }
+        requires slot { slot < most_slots }
+        requires row { RowOf (mode_kind C.BlockCipher) row.old }
+        // asked above, and said again, since a caller keeps of a call only what it ensures
         ensures seen { AllBytes row.old }
         ensures after { row.new ≡ sealed_by C.BlockCipher self.now slot row.old }
         ensures back { opened_by C.BlockCipher self.now slot row.new ≡ row.old }
     {
-        note_bytes(row);
         let nonce = self.label.nonce(slot);
         let _ = self.keys.seal(&nonce, &[], row);
     }
 
     // Opens what the slot holds where it lies.
     pub(crate) fn open_row(&self, slot: usize, row: &mut [u8])
-        requires { (slot < 64) × ((16 ≤ length row.old) × (length row.old ≤ 1000)) }
+        requires slot { slot < most_slots }
+        requires row { RowOf (mode_kind C.BlockCipher) row.old }
         ensures after { row.new ≡ opened_by C.BlockCipher self.now slot row.old }
         ensures bytes { AllBytes row.new }
     {
         let nonce = self.label.nonce(slot);
         let _ = self.keys.open(&nonce, &[], row);
-        note_bytes(row);
     }
 }

@@ -1,10 +1,10 @@
 -- Laying a row into free cells, from its last piece to its first.
-use Rattle.std.proofs.Common.{◌≡◌, ℕ, ◌+◌, ◌-◌, ◌*◌, ◌/◌, ◌%◌, ◌<◌, ◌≤◌, ◌⊎◌, List, [], ◌++◌, length, get_or, take, drop, set, sym, refl, ap, ◌∙◌, subst, inl, inr, ⊎_elim, arith}
-use Rattle.std.proofs.lemmas.List.{set-get_or, set-set, length-set, get_or-set_same, drop_all, drop-drop, length-drop, length-take-le, take-append-drop, nil_from_length, drop-set-lt}
+use Rattle.std.proofs.Common.{◌≡◌, ℕ, ◌+◌, ◌-◌, ◌*◌, ◌/◌, ◌%◌, ◌<◌, ◌≤◌, ◌⊎◌, List, [], ◌++◌, length, get_or, take, drop, set, sym, refl, ap, ◌∙◌, subst, inl, inr, ⊎_elim, Option, Some, None, IsSome, arith}
+use Rattle.std.proofs.lemmas.List.{set-get_or, set-set, length-set, get_or-set_same, drop_all, drop-drop, length-drop, length-take-le, take-append-drop, nil_from_length, drop-set-lt, take_at, drop_at, take-take, drop-take, length-append}
 use Rattle.std.proofs.lemmas.Bool.{cases_eq, cases_lt}
 use Rattle.base.specs.Bytes.{AllBytes}
 use Rattle.base.proofs.Strings.{append_bytes}
-use Rattle.chain.specs.Cells.{used_of, cell_of, put_cell, chain_units, chains_of}
+use Rattle.chain.specs.Cells.{used_of, FirstFree, cell_of, put_cell, chain_units, chains_of}
 use Rattle.chain.specs.Memory.{LinkedIn, rows_in, other_chains, RowPut}
 use Rattle.chain.proofs.Plans.{Before, cell_same, cell_other, length_cell}
 use Rattle.chain.proofs.Has.{Has, cost, rows_are, has_push, push_others, has_none, has_free, cost_set}
@@ -14,6 +14,15 @@ use Rattle.chain.proofs.Releasing.{cells_size, heads_size, size_again, take_set_
 -- where the last piece begins of the first `at` bytes
 abbrev pub start : ℕ → ℕ
 start at = ((at - 1) / 30) * 30
+
+-- the last piece of what is left of a row, and what is left then
+pub back : (r x y p : List ℕ) → x ≡ take (length x) r → x ≡ y ++ p → (y ≡ take (length y) r) × (p ≡ take (length x - length y) (drop (length y) r))
+back r x y p e f =
+    let n : length x ≡ length y + length p = ap (λ t. length t) f ∙ length-append y p in
+    let w : length y + (length x - length y) ≡ length x = omega (arith, n) in (
+      sym (take_at y p (length y) refl) ∙ ap (take (length y)) (sym f ∙ e) ∙ take-take (length y) (length x) r (omega (arith, n)),
+      sym (drop_at y p (length y) refl) ∙ ap (drop (length y)) (sym f ∙ e ∙ ap (λ t. take t r) (sym w)) ∙ drop-take (length y) (length x - length y) r,
+    )
 
 -- ---- the piece before `at`
 
@@ -86,12 +95,11 @@ module _ (s c slot cur at from : ℕ) (r before b : List ℕ) (h : slot < s) (a 
   rows_long = omega (arith, a.has.held, length-set (rows_in s c before) slot (drop at r), length-set (take s b) slot cur, long)
 
   -- a free cell is left
-  pub build_free : cost (rows_in s c before) + chain_units (length r) ≤ c → (k : ℕ) → (k ≡ 0 → (j : ℕ) → from ≤ j → j ≤ c → 1 ≤ used_of (drop s b) j) → 1 ≤ k
-  build_free room k none = ⊎_elim
-      (λ z. absurd (has_free c (drop s b) (set (take s b) slot cur) (set (rows_in s c before) slot (drop at r)) a.has
+  pub build_free : cost (rows_in s c before) + chain_units (length r) ≤ c → (o : Option ℕ) → FirstFree c (drop s b) from o → IsSome o
+  build_free room (Some k) f = refl
+  build_free room None f = absurd (has_free c (drop s b) (set (take s b) slot cur) (set (rows_in s c before) slot (drop at r)) a.has
       (omega (arith, less r at pos a.end a.full, cost_set (rows_in s c before) slot (drop at r) rows_long))
-      (λ j lo hi. ⊎_elim (λ l. a.passed j lo l) (λ l. none z j l hi) (cases_lt j from))))
-      (λ ne. omega (arith, ne)) (cases_eq k 0)
+      (λ j lo hi. ⊎_elim (λ l. a.passed j lo l) (λ l. f j l hi) (cases_lt j from)))
 
   module _ (k : ℕ) (lo : 1 ≤ k) (far : from ≤ k) (hi : k ≤ c) (z : used_of (drop s b) k ≡ 0) (skipped : (j : ℕ) → from ≤ j → j < k → 1 ≤ used_of (drop s b) j)
       (b' : List ℕ) (eh : take s b' ≡ take s b) (ec : drop s b' ≡ put_cell (drop s b) k (cell_of cur p)) (fits : AllBytes p) where

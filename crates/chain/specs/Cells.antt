@@ -1,5 +1,5 @@
 -- Cells of 32 bytes, numbered from 1, and the chains that they make.
-use Rattle.std.specs.Prelude.{◌≡◌, ℕ, zero, suc, ◌+◌, ◌-◌, ◌*◌, ◌/◌, ◌<◌, ◌≤◌, cond, List, [], ◌∷◌, ◌++◌, map, length, take, drop, sum_by, count_by, ◌==◌, ◌≢◌, nat_eq, slice_index}
+use Rattle.std.specs.Prelude.{◌≡◌, ℕ, zero, suc, ◌+◌, ◌-◌, ◌*◌, ◌/◌, ◌<◌, ◌≤◌, Bool, false, cond, Option, Some, None, List, [], ◌∷◌, ◌++◌, map, length, take, drop, sum_by, count_by, ◌==◌, ◌≢◌, nat_eq, slice_index, slice_index_or}
 use Rattle.std.specs.List.{flat_map}
 use Rattle.base.specs.Bytes.{zeros}
 
@@ -38,6 +38,11 @@ pub record RightCell (c : ℕ) (cs : List ℕ) (k : ℕ) : Type 0 where
   pub full : (next_of cs k ≢ 0) → used_of cs k ≡ 30
   pub is : cell cs k ≡ cell_of (next_of cs k) (piece_of cs k)
 
+-- the first free cell from `from` on, or none, where there are c cells
+abbrev pub FirstFree : ℕ → List ℕ → ℕ → Option ℕ → Type 0
+FirstFree c cs from (Some k) = (from ≤ k) × (k ≤ c) × (used_of cs k ≡ 0) × ((j : ℕ) → from ≤ j → j < k → 1 ≤ used_of cs j)
+FirstFree c cs from None = (j : ℕ) → from ≤ j → j ≤ c → 1 ≤ used_of cs j
+
 -- ---- one chain
 
 -- the chain that begins at k: its cells in order, the first f of them
@@ -75,6 +80,10 @@ times_in k chain = count_by (nat_eq k) chain
 -- how often it stands on all chains together
 abbrev pub times_on : ℕ → List (List ℕ) → ℕ
 times_on k chains = sum_by (times_in k) chains
+
+-- how often cell k was met, where a flag says for each cell that it was
+abbrev pub times_met : List Bool → ℕ → ℕ
+times_met met k = cond (slice_index_or met k false) 1 0
 
 -- heads and cells are linked rightly: every head's chain is right, no cell is on two chains or twice on one, and a
 -- cell on no chain is all zero

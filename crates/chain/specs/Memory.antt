@@ -7,7 +7,7 @@ use Rattle.base.specs.Refusals.{Check, decided}
 use Rattle.devices.specs.Slots.{Slot, nothing, row, Shape, RowFits}
 use Rattle.devices.specs.Answers.{Answer}
 use Rattle.devices.specs.Limits.{within_limits}
-use Rattle.chain.specs.Cells.{cell, chain_units, chains_of, rows_of, times_in, times_on, Linked}
+use Rattle.chain.specs.Cells.{cell, chain_units, RightChain, chain_from, row_in, chains_of, rows_of, times_in, times_on, Linked}
 
 -- the head of each slot
 abbrev pub heads_in : ℕ → List ℕ → List ℕ
@@ -45,6 +45,14 @@ chain_held s c memory = map slot_in (rows_in s c memory)
 -- a row costs as many units as it takes cells, and the total is the count of cells
 abbrev pub chain_shape : ℕ → ℕ → ℕ → Shape
 chain_shape s m c = record { slots = s; longest = m; units = chain_units; total = c }
+
+-- the chain of a head is right, and its row is within the limits of its length, where there are s heads
+abbrev pub HeadFits : ℕ → ℕ → ℕ → List ℕ → ℕ → Type 0
+HeadFits s m c cs k = RightChain c cs c k × RowFits (chain_shape s m c) (slot_in (row_in cs (chain_from cs c k)))
+
+-- those of every head are, and no cell is on two chains or twice on one
+abbrev pub HeadsFit : ℕ → ℕ → List ℕ → List ℕ → Type 0
+HeadsFit m c cs heads = ((i : ℕ) → i < length heads → HeadFits (length heads) m c cs (slice_index heads i)) × ((k : ℕ) → times_on k (chains_of c cs heads) ≤ 1)
 
 -- well-formed memory: heads and cells are linked rightly, and each row is within the limits of its length
 pub record WellFormed (s m c : ℕ) (memory : List ℕ) : Type 0 where

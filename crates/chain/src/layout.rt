@@ -1,34 +1,26 @@
-// The layout of a chain's memory, within the limits.
-ghost use Rattle.std.specs.Prelude.{◌≡◌, ◌<◌, ◌≤◌, true, false};
-ghost use Rattle.devices.specs.Limits.{Limits};
+// The layout of a chain's memory.
+ghost use Rattle.std.specs.Prelude.{◌≡◌};
 ghost use Rattle.chain.specs.Memory.{wrong_dimensions};
-ghost use Rattle.chain.specs.Soundness.{CellLimits};
 
 use devices::within_limits;
 
-// How a chain's memory is laid out: so many heads, and behind them so many cells.
-#[derive(Clone, Copy)]
+// How a chain's memory is laid out: so many heads, and behind them so many cells, for rows of up to `longest` bytes.
+// Any numbers may stand here; setting out and checking refuse those that are out of range.
+#[derive(Clone, Copy, PartialEq, Eq, Debug)]
 pub struct Layout {
     pub slots: usize,
     pub longest: usize,
     pub cells: usize,
-    ghost limits: { Limits slots longest },
-    ghost count: { CellLimits cells },
 }
 
 impl Layout {
-    // Whether there is a slot of this number.
-    pub(crate) fn has(self, slot: usize) -> bool
-        ensures right { result ≡ true → slot < self.slots }
-        ensures wrong { result ≡ false → self.slots ≤ slot }
+    // Whether a dimension is out of range, or `len` bytes are not the layout's.
+    pub(crate) fn is_wrong(self, len: usize) -> bool
+        ensures { result ≡ wrong_dimensions self.slots self.longest self.cells len }
     {
-        slot < self.slots
+        !within_limits(self.slots, self.longest)
+            || self.cells < 1
+            || self.cells > 255
+            || len != self.slots + 32 * self.cells
     }
-}
-
-// Whether a dimension is out of range, or `len` bytes are not the layout's.
-pub(crate) fn wrong_dimensions(len: usize, slots: usize, longest: usize, cells: usize) -> bool
-    ensures { result ≡ wrong_dimensions slots longest cells len }
-{
-    !within_limits(slots, longest) || cells < 1 || cells > 255 || len != slots + 32 * cells
 }

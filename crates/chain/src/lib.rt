@@ -1,6 +1,5 @@
 #![tactic(auto)]
 // The chain device: rows in chains of cells of 32 bytes.
-ghost use Rattle.std.specs.Prelude.{◌≡◌, ◌+◌, ◌*◌, length};
 ghost use Rattle.chain.specs.Memory.{WellFormed};
 
 mod cells;
@@ -12,13 +11,11 @@ mod rows;
 
 use cells::Memory;
 pub use examples::chain_examples;
-use layout::Layout;
+pub use layout::Layout;
 
 // A chain: a device in its owner's memory, which stays well formed.
 #[derive(Drop)]
 pub struct Chain<'a> {
     memory: Memory<'a>,
-    layout: Layout,
-    ghost size: { length memory.bytes.now ≡ layout.slots + 32 * layout.cells },
-    ghost formed: { ∥ WellFormed layout.slots layout.longest layout.cells memory.bytes.now ∥₁ },
+    ghost formed: { ∥ WellFormed memory.layout.slots memory.layout.longest memory.layout.cells memory.loan.bytes.now ∥₁ },
 }

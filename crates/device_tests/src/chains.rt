@@ -1,43 +1,75 @@
 // Chains of two slots and three cells, with rows of up to seventy bytes: 98 bytes of memory.
+// One assertion below another, so that each that fails is named by its own line.
 use base::Refusal;
-use chain::Chain;
+use chain::{Chain, Layout};
 use devices::SlotDevice;
 use std::process::Abort;
 use std::test::Fail;
+
+// Two slots, three cells, and rows of up to seventy bytes.
+const LAYOUT: Layout = Layout {
+    slots: 2,
+    longest: 70,
+    cells: 3,
+};
 
 #[test]
 fn dimensions(rt: HostRuntime) {
     let mut memory = [7u8; 98];
     assert_eq!(rt;
-        Chain::set_out(&mut memory, 0, 70, 3),
+        Chain::set_out(&mut memory, Layout { slots: 0, ..LAYOUT }),
         Err(Refusal::BadDimensions)
     );
     assert_eq!(rt;
-        Chain::set_out(&mut memory, 65, 70, 3),
+        Chain::set_out(
+            &mut memory,
+            Layout {
+                slots: 65,
+                ..LAYOUT
+            }
+        ),
         Err(Refusal::BadDimensions)
     );
     assert_eq!(rt;
-        Chain::set_out(&mut memory, 2, 15, 3),
+        Chain::set_out(
+            &mut memory,
+            Layout {
+                longest: 15,
+                ..LAYOUT
+            }
+        ),
         Err(Refusal::BadDimensions)
     );
     assert_eq!(rt;
-        Chain::set_out(&mut memory, 2, 1001, 3),
+        Chain::set_out(
+            &mut memory,
+            Layout {
+                longest: 1001,
+                ..LAYOUT
+            }
+        ),
         Err(Refusal::BadDimensions)
     );
     assert_eq!(rt;
-        Chain::set_out(&mut memory, 2, 70, 0),
+        Chain::set_out(&mut memory, Layout { cells: 0, ..LAYOUT }),
         Err(Refusal::BadDimensions)
     );
     assert_eq!(rt;
-        Chain::set_out(&mut memory, 2, 70, 256),
+        Chain::set_out(
+            &mut memory,
+            Layout {
+                cells: 256,
+                ..LAYOUT
+            }
+        ),
         Err(Refusal::BadDimensions)
     );
     assert_eq!(rt;
-        Chain::set_out(&mut memory, 2, 70, 2),
+        Chain::set_out(&mut memory, Layout { cells: 2, ..LAYOUT }),
         Err(Refusal::BadDimensions)
     );
     assert_eq!(rt; memory, [7u8; 98], "a declined call leaves the memory");
-    assert_eq!(rt; Chain::set_out(&mut memory, 2, 70, 3), Ok(0));
+    assert_eq!(rt; Chain::set_out(&mut memory, LAYOUT), Ok(0));
     assert_eq!(rt; memory, [0u8; 98]);
 }
 
@@ -52,7 +84,7 @@ fn damaged(at: usize, byte: u8, and: usize, other: u8) -> Result<usize, Refusal>
         memory[at] = byte;
         memory[and] = other;
     }
-    Chain::check(&memory, 2, 70, 3)
+    Chain::check(&memory, LAYOUT)
 }
 
 #[test]
@@ -141,12 +173,12 @@ fn fill_and_empty<D: SlotDevice>(rt: &impl Abort, device: &mut D) {
 #[test]
 fn full(rt: HostRuntime) -> Result<(), Fail> {
     let mut memory = [0u8; 98];
-    Chain::check(&memory, 2, 70, 3)?;
-    let mut chain = Chain::attach(&mut memory, 2, 70, 3);
+    Chain::check(&memory, LAYOUT)?;
+    let mut chain = Chain::attach(&mut memory, LAYOUT);
     fill_and_empty(&rt, &mut chain);
     let left = chain.give_up();
     assert!(rt; left.len() == 98);
     assert_eq!(rt; left[0], 0);
-    assert_eq!(rt; Chain::check(left, 2, 70, 3), Ok(0));
+    assert_eq!(rt; Chain::check(left, LAYOUT), Ok(0));
     Ok(())
 }

@@ -1,34 +1,30 @@
 // Trays of two slots with rows of up to twenty bytes: 44 bytes of memory.
+// One assertion below another, so that each that fails is named by its own line.
 use base::Refusal;
 use devices::{SlotDevice, find};
 use std::test::Fail;
-use tray::Tray;
+use tray::{Layout, Tray};
+
+const LAYOUT: Layout = Layout {
+    slots: 2,
+    longest: 20,
+};
+
+// Sets out a tray of so many slots and rows of up to so many bytes.
+fn set_out(memory: &mut [u8], slots: usize, longest: usize) -> Result<usize, Refusal> {
+    Tray::set_out(memory, Layout { slots, longest })
+}
 
 #[test]
 fn dimensions(rt: HostRuntime) {
     let mut memory = [7u8; 44];
-    assert_eq!(rt;
-        Tray::set_out(&mut memory, 0, 20),
-        Err(Refusal::BadDimensions)
-    );
-    assert_eq!(rt;
-        Tray::set_out(&mut memory, 65, 20),
-        Err(Refusal::BadDimensions)
-    );
-    assert_eq!(rt;
-        Tray::set_out(&mut memory, 2, 15),
-        Err(Refusal::BadDimensions)
-    );
-    assert_eq!(rt;
-        Tray::set_out(&mut memory, 2, 1001),
-        Err(Refusal::BadDimensions)
-    );
-    assert_eq!(rt;
-        Tray::set_out(&mut memory, 2, 19),
-        Err(Refusal::BadDimensions)
-    );
+    assert_eq!(rt; set_out(&mut memory, 0, 20), Err(Refusal::BadDimensions));
+    assert_eq!(rt; set_out(&mut memory, 65, 20), Err(Refusal::BadDimensions));
+    assert_eq!(rt; set_out(&mut memory, 2, 15), Err(Refusal::BadDimensions));
+    assert_eq!(rt; set_out(&mut memory, 2, 1001), Err(Refusal::BadDimensions));
+    assert_eq!(rt; set_out(&mut memory, 2, 19), Err(Refusal::BadDimensions));
     assert_eq!(rt; memory, [7u8; 44], "a declined call leaves the memory");
-    assert_eq!(rt; Tray::set_out(&mut memory, 2, 20), Ok(0));
+    assert_eq!(rt; set_out(&mut memory, 2, 20), Ok(0));
     assert_eq!(rt; memory, [0u8; 44]);
 }
 
@@ -39,7 +35,7 @@ fn damaged(at: usize, byte: u8) -> Result<usize, Refusal> {
     if at < 44 {
         memory[at] = byte;
     }
-    Tray::check(&memory, 2, 20)
+    Tray::check(&memory, LAYOUT)
 }
 
 #[test]
@@ -78,8 +74,8 @@ fn damage(rt: HostRuntime) {
 #[test]
 fn calls(rt: HostRuntime) -> Result<(), Fail> {
     let mut memory = [0u8; 44];
-    Tray::check(&memory, 2, 20)?;
-    let mut tray = Tray::attach(&mut memory, 2, 20);
+    Tray::check(&memory, LAYOUT)?;
+    let mut tray = Tray::attach(&mut memory, LAYOUT);
     let mut row = [5u8; 17];
     assert_eq!(rt; tray.write(2, &mut row), Err(Refusal::NoSuchSlot));
     assert_eq!(rt; tray.write(1, &mut row[0..15]), Err(Refusal::WrongLength));

@@ -2,3 +2,4 @@ pub mod Slots
 pub mod Answers
 pub mod Finding
 pub mod Limits
+pub mod Leaving

@@ -6,7 +6,8 @@ ghost use Rattle.devices.specs.Answers.{write_answer, held_after_write, row_afte
 use base::Refusal;
 
 // A device keeps rows in numbered slots. A ghost member says what an implementation means, and each call is an
-// equation with that meaning, for every argument. A declined call, a read and a question leave `state` as found.
+// equation with that meaning, for every argument. A declined call, a read and a question leave `state` as found. An
+// accepted call answers a number, which is 0 where none is named.
 pub trait SlotDevice {
     // what no call ever changes
     ghost Fixed: { Type 0 };

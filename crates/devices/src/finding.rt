@@ -1,25 +1,11 @@
 // Finding a row by its first bytes, on any device.
 ghost use Rattle.std.specs.Prelude.{◌≡◌, ◌<◌, ◌≤◌, length, drop, slice_index_or};
 ghost use Rattle.devices.specs.Slots.{nothing};
-ghost use Rattle.devices.specs.Finding.{begins, slot_begins, Found, FindAnswer, work_after_find};
+ghost use Rattle.devices.specs.Finding.{slot_begins, Found, FindAnswer, work_after_find};
+ghost use Rattle.devices.specs.Leaving.{Unchanged};
 
 use crate::device::SlotDevice;
 use base::{Refusal, wipe};
-
-// Whether the bytes begin with `front`.
-fn begins_with(front: &[u8], bytes: &[u8]) -> bool
-    ensures { result ≡ begins front.now bytes.now }
-{
-    if bytes.len() < front.len() {
-        return false;
-    }
-    for i in 0..front.len() {
-        if front[i] != bytes[i] {
-            return false;
-        }
-    }
-    true
-}
 
 // Whether the slot's row begins with `front`; the row is read into the work buffer.
 fn slot_begins<D: SlotDevice>(device: &mut D, slot: usize, front: &[u8], work: &mut [u8]) -> bool
@@ -27,13 +13,10 @@ fn slot_begins<D: SlotDevice>(device: &mut D, slot: usize, front: &[u8], work: &
     requires inside { slot < (D.shape device.old).slots }
     ensures answer { result ≡ slot_begins front.now (slice_index_or (D.held device.old) slot nothing) }
     ensures rest { drop (D.shape device.old).longest work.new ≡ drop (D.shape device.old).longest work.old }
-    ensures fixed { D.fixed device.new ≡ D.fixed device.old }
-    ensures shape { D.shape device.new ≡ D.shape device.old }
-    ensures held { D.held device.new ≡ D.held device.old }
-    ensures kept { D.state device.new ≡ D.state device.old }
+    ensures device { Unchanged D.SlotDevice device.old device.new }
 {
     match device.read(slot, work) {
-        Ok(n) => begins_with(front, &work[0..n]),
+        Ok(n) => work[..n].starts_with(front),
         Err(_) => false,
     }
 }
@@ -43,11 +26,9 @@ fn first_match<D: SlotDevice>(device: &mut D, front: &[u8], work: &mut [u8]) -> 
     requires { (D.shape device.old).longest ≤ length work.old }
     ensures answer { Found front.now (D.held device.old) result }
     ensures rest { drop (D.shape device.old).longest work.new ≡ drop (D.shape device.old).longest work.old }
-    ensures fixed { D.fixed device.new ≡ D.fixed device.old }
-    ensures shape { D.shape device.new ≡ D.shape device.old }
-    ensures held { D.held device.new ≡ D.held device.old }
-    ensures kept { D.state device.new ≡ D.state device.old }
+    ensures device { Unchanged D.SlotDevice device.old device.new }
 {
+    // A loop, since no proof would know what a closure called by `find` left of the device and of the work buffer.
     for slot in 0..device.slots() {
         if slot_begins(device, slot, front, work) {
             return Some(slot);

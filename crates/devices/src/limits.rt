@@ -6,5 +6,5 @@ ghost use Rattle.devices.specs.Limits.{within_limits};
 pub fn within_limits(slots: usize, longest: usize) -> bool
     ensures { result ≡ within_limits slots longest }
 {
-    slots >= 1 && slots <= 64 && longest >= 16 && longest <= 1000
+    (1..=64).contains(&slots) && (16..=1000).contains(&longest)
 }

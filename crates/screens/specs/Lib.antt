@@ -1,4 +1,1 @@
-pub mod Layouts
-pub mod Kinds
 pub mod Tables
-pub mod Scripts

@@ -1,8 +1,6 @@
 #![tactic(auto)]
 // Runs two lists of calls on two screens, and shows each answer and what the slots then hold.
-mod lists;
 mod script;
-mod setup;
 mod table;
 
 use script::Script;
@@ -14,6 +12,7 @@ use text::read_line;
 // Takes every line of the input into the script.
 fn take_all<R: BufRead>(heap: Global, input: &mut R, script: &mut Script) -> io::Result<()> {
     let mut line = Vec::new(heap);
+    // `lines` would end at a line that is not text, and `split` makes a new buffer for each
     for _ in 0..u64::MAX {
         if !read_line(input, &mut line)? {
             break;

@@ -1,26 +1,33 @@
 // A script: its screens, its cipher and the two lists of calls.
-ghost use Rattle.std.specs.Prelude.{◌≡◌};
+ghost use Rattle.std.specs.Prelude.{◌≡◌, map, IfOk};
 ghost use Rattle.boards.specs.Screens.{behind};
+ghost use Rattle.boards.specs.declared.calls.Reply.TheVariants.{OutOfTurn};
+ghost use Rattle.commands.specs.Wording.{Means};
 
-use crate::lists::{answer, entry};
-use crate::setup::{Kind, Layout, kind_of};
 use crate::table::compare;
-use boards::{Entry, Screen, run_two};
-use chain::Chain;
+use boards::{Entry, Reply, Screen, run_two};
 use ciphers::{Aes128, BlockCipher, Speck128};
+use commands::{Device, Layout, answer, call};
 use devices::SlotDevice;
 use std::alloc::{AllocError, Global};
-use text::{Fault, words_of};
-use tray::Tray;
+use text::{CipherKind, Fault, words_of};
 
-// The two screens, each with its list of calls.
+// The two screens.
 #[derive(Clone, Copy)]
 enum Which {
     One,
     Two,
 }
 
-// A line of the script: answered at once, or a call of one of the lists.
+// A screen: how it is set out, and its list of calls.
+#[derive(Drop)]
+struct Side {
+    layout: Option<Layout>,
+    calls: Vec<Entry>,
+}
+
+// A line of the script: answered at once, or the call at this place of a screen's list, which `run_two` takes as one slice. No
+// Result, since neither is an error.
 #[derive(Drop)]
 enum Line {
     Answered(String),
@@ -29,76 +36,67 @@ enum Line {
 
 #[derive(Drop)]
 pub struct Script {
-    one: Option<Layout>,
-    two: Option<Layout>,
-    cipher: Option<Kind>,
-    first: Vec<Entry>,
-    second: Vec<Entry>,
+    one: Side,
+    two: Side,
+    cipher: Option<CipherKind>,
     lines: Vec<Line>,
 }
 
-// The words with one space between them.
-fn joined(heap: Global, words: &[&str]) -> Result<String, AllocError> {
-    let mut text = String::new(heap);
-    for word in words {
-        if !text.is_empty() {
-            text.push(' ')?;
-        }
-        text.push_str(word)?;
-    }
-    Ok(text)
+// The call that words stand for, not answered yet.
+fn entry(heap: Global, words: &[&str]) -> Result<Entry, Fault>
+    ensures { IfOk result (λ e. Means (map (λ w. w.now) words.now) e.call × (e.reply ≡ OutOfTurn)) }
+{
+    Ok(Entry {
+        call: call(heap, words)?,
+        reply: Reply::OutOfTurn,
+    })
 }
 
-// Whether a device can be set out so.
-fn check_layout(heap: Global, layout: Layout) -> Result<(), Fault> {
-    let mut memory = vec![in heap; 0; layout.size()]?;
-    match layout {
-        Layout::Tray { slots, longest } => {
-            Tray::set_out(memory.as_mut_slice(), slots, longest)?;
-        }
-        Layout::Chain {
-            slots,
-            longest,
-            cells,
-        } => {
-            Chain::set_out(memory.as_mut_slice(), slots, longest, cells)?;
+impl Side {
+    fn new(heap: Global) -> Side {
+        Side {
+            layout: None,
+            calls: Vec::new(heap),
         }
     }
-    Ok(())
-}
 
-// Puts a layout where there is none yet.
-fn put_layout(heap: Global, place: &mut Option<Layout>, layout: Layout) -> Result<(), Fault> {
-    if place.is_some() {
-        return Err(Fault::Line("this screen is set out already"));
+    // Chooses the layout, once.
+    fn set_up(&mut self, heap: Global, layout: Layout) -> Result<(), Fault> {
+        if self.layout.is_some() {
+            return Err(Fault::Line("this screen is set out already"));
+        }
+        // whether a device can be set out so
+        layout.set_out(heap)?;
+        self.layout = Some(layout);
+        Ok(())
     }
-    check_layout(heap, layout)?;
-    *place = Some(layout);
-    Ok(())
+
+    // What the call at this place was answered.
+    fn answer_at(&self, heap: Global, at: usize) -> Result<String, AllocError> {
+        match self.calls.get(at) {
+            Some(entry) => answer(heap, &entry.call, entry.reply),
+            None => Ok(String::new(heap)),
+        }
+    }
 }
 
 impl Script {
     pub fn new(heap: Global) -> Script {
         Script {
-            one: None,
-            two: None,
+            one: Side::new(heap),
+            two: Side::new(heap),
             cipher: None,
-            first: Vec::new(heap),
-            second: Vec::new(heap),
             lines: Vec::new(heap),
         }
     }
 
     // Takes one line of the script.
     pub fn take(&mut self, heap: Global, line: &[u8]) -> Result<(), AllocError> {
-        match self.try_take(heap, line) {
-            Ok(()) => Ok(()),
-            Err(fault) => {
-                let answer = fault.answer(heap)?;
-                self.lines.push(Line::Answered(answer))?;
-                Ok(())
-            }
+        if let Err(fault) = self.try_take(heap, line) {
+            let answer = fault.answer(heap)?;
+            self.lines.push(Line::Answered(answer))?;
         }
+        Ok(())
     }
 
     fn try_take(&mut self, heap: Global, line: &[u8]) -> Result<(), Fault> {
@@ -117,6 +115,21 @@ impl Script {
         }
     }
 
+    fn side(&self, which: Which) -> &Side {
+        match which {
+            Which::One => &self.one,
+            Which::Two => &self.two,
+        }
+    }
+
+    // apart from `side`, since the language has one function for each kind of loan
+    fn side_mut(&mut self, which: Which) -> &mut Side {
+        match which {
+            Which::One => &mut self.one,
+            Which::Two => &mut self.two,
+        }
+    }
+
     // Adds a call to the list of a screen.
     fn add_call(
         &mut self,
@@ -126,17 +139,11 @@ impl Script {
         call: &[&str],
     ) -> Result<(), Fault> {
         let called = entry(heap, call)?;
-        let text = joined(heap, words)?;
-        let at = match on {
-            Which::One => self.first.len(),
-            Which::Two => self.second.len(),
-        };
+        let text = words.join(heap, " ")?;
+        let at = self.side(on).calls.len();
         // the line first, so that no call is run that has no line to answer in
         self.lines.push(Line::Called { on, text, at })?;
-        match on {
-            Which::One => self.first.push(called)?,
-            Which::Two => self.second.push(called)?,
-        }
+        self.side_mut(on).calls.push(called)?;
         Ok(())
     }
 
@@ -147,15 +154,20 @@ impl Script {
         Ok(())
     }
 
+    // Whether a call was taken already.
+    fn has_calls(&self) -> bool {
+        !self.one.calls.is_empty() || !self.two.calls.is_empty()
+    }
+
     // Sets out a screen, once and before the first call.
     fn set_up(&mut self, heap: Global, which: &str, device: &[&str]) -> Result<(), Fault> {
-        let layout = Layout::parse(device)?;
-        if !self.first.is_empty() || !self.second.is_empty() {
+        let layout = Layout::parse(device, "not a device")?;
+        if self.has_calls() {
             return Err(Fault::Line("the screens are set out before the first call"));
         }
         match which {
-            "1" => put_layout(heap, &mut self.one, layout)?,
-            "2" => put_layout(heap, &mut self.two, layout)?,
+            "1" => self.one.set_up(heap, layout)?,
+            "2" => self.two.set_up(heap, layout)?,
             _ => return Err(Fault::Line("not a screen")),
         }
         self.accept(heap)
@@ -163,58 +175,73 @@ impl Script {
 
     // Chooses the cipher, once and before the first call.
     fn choose(&mut self, heap: Global, name: &str) -> Result<(), Fault> {
-        let kind = kind_of(name)?;
-        if !self.first.is_empty() || !self.second.is_empty() || self.cipher.is_some() {
+        let kind = name.parse()?;
+        if self.has_calls() || self.cipher.is_some() {
             return Err(Fault::Line("the cipher is chosen once and before the first call"));
         }
         self.cipher = Some(kind);
         self.accept(heap)
     }
 
-    // Sets out both devices, runs both lists, and fills the table of the slots.
-    fn play(&mut self, heap: Global, table: &mut Vec<String>) -> Result<(), Fault> {
-        let Some(one) = self.one else {
+    // Sets out both devices, runs both lists, and compares the slots.
+    fn play(&mut self, heap: Global) -> Result<Vec<String>, Fault> {
+        let Some(one) = self.one.layout else {
             return Err(Fault::Line("screen 1 is not set out"));
         };
-        let Some(two) = self.two else {
+        let Some(two) = self.two.layout else {
             return Err(Fault::Line("screen 2 is not set out"));
         };
         let Some(kind) = self.cipher else {
             return Err(Fault::Line("no cipher is chosen"));
         };
-        run_on(
-            heap,
-            kind,
-            one,
-            two,
-            self.first.as_mut_slice(),
-            self.second.as_mut_slice(),
-            table,
-        )
+        let mut first = one.set_out(heap)?;
+        let mut second = two.set_out(heap)?;
+        let one = Device::attach(first.as_mut_slice(), one);
+        let two = Device::attach(second.as_mut_slice(), two);
+        // two calls, as no closure can be generic over the cipher
+        match kind {
+            CipherKind::Aes128 => Ok(self.run_both::<Aes128, Device, Device>(heap, one, two)?),
+            CipherKind::Speck128 => Ok(self.run_both::<Speck128, Device, Device>(heap, one, two)?),
+        }
     }
 
-    // Runs both lists and fills the table; where they can't be run, the answer that says why.
-    fn outcome(
+    // Runs both lists on two screens over the devices, and compares the slots. Generic, as there is no proof of a
+    // function that takes a `Device` by value.
+    fn run_both<C: BlockCipher + Drop, D: SlotDevice + Drop, F: SlotDevice + Drop>(
         &mut self,
         heap: Global,
-        table: &mut Vec<String>,
-    ) -> Result<Option<String>, AllocError> {
-        match self.play(heap, table) {
-            Ok(()) => Ok(None),
-            Err(fault) => Ok(Some(fault.answer(heap)?)),
+        one: D,
+        two: F,
+    ) -> Result<Vec<String>, AllocError> {
+        let first = self.one.calls.as_mut_slice();
+        let second = self.two.calls.as_mut_slice();
+        let (a, b) = run_two::<C, D, C, F>(one, two, first, second);
+        compare(heap, &mut shut(a), &mut shut(b))
+    }
+
+    // What the script is answered: the table of the slots, or where it can't be run, the line that says why.
+    fn outcome(&mut self, heap: Global) -> Result<Result<Vec<String>, String>, AllocError> {
+        match self.play(heap) {
+            Ok(table) => Ok(Ok(table)),
+            Err(fault) => Ok(Err(fault.answer(heap)?)),
         }
     }
 
     // Runs both lists, and gives the answer to each line and then the table of the slots.
     pub fn run(&mut self, heap: Global) -> Result<Vec<String>, AllocError> {
-        let mut table = Vec::new(heap);
-        let wrong = self.outcome(heap, &mut table)?;
+        let outcome = self.outcome(heap)?;
         let mut lines = Vec::new(heap);
         for line in self.lines.iter() {
-            lines.push(self.answer_to(heap, line, &wrong)?)?;
+            lines.push(self.answer_to(heap, line, &outcome)?)?;
         }
-        for line in table.iter() {
-            lines.push(line.clone()?)?;
+        // a match, since a proof doesn't cover `if let` here
+        match outcome {
+            Ok(table) => {
+                for line in table {
+                    lines.push(line)?;
+                }
+            }
+            Err(_why) => {}
         }
         Ok(lines)
     }
@@ -224,40 +251,19 @@ impl Script {
         &self,
         heap: Global,
         line: &Line,
-        wrong: &Option<String>,
+        outcome: &Result<Vec<String>, String>,
     ) -> Result<String, AllocError> {
-        let (on, text, at) = match line {
-            Line::Answered(text) => return text.clone(),
-            Line::Called { on, text, at } => (*on, text, *at),
-        };
-        if let Some(text) = wrong {
-            return text.clone();
+        match line {
+            Line::Answered(text) => text.clone(),
+            Line::Called { on, text, at } => match outcome {
+                Err(why) => why.clone(),
+                Ok(_) => {
+                    let answered = self.side(*on).answer_at(heap, *at)?;
+                    format!(in heap; "{text} : {answered}")
+                }
+            },
         }
-        let entry = match on {
-            Which::One => self.first.get(at),
-            Which::Two => self.second.get(at),
-        };
-        let answered = match entry {
-            Some(entry) => answer(heap, entry)?,
-            None => String::new(heap),
-        };
-        format!(in heap; "{text} : {answered}")
     }
-}
-
-// Runs both lists on two screens over the devices.
-fn run_both<C: BlockCipher + Drop, D: SlotDevice + Drop, F: SlotDevice + Drop>(
-    heap: Global,
-    one: D,
-    two: F,
-    first: &mut [Entry],
-    second: &mut [Entry],
-    table: &mut Vec<String>,
-) -> Result<(), Fault> {
-    let (a, b) = run_two::<C, D, C, F>(one, two, first, second);
-    let mut left = shut(a);
-    let mut right = shut(b);
-    compare(heap, &mut left, &mut right, table)
 }
 
 // The device of a screen, whether a board is open over it or not.
@@ -267,83 +273,5 @@ fn shut<C: BlockCipher + Drop, D: SlotDevice>(screen: Screen<C, D>) -> D
     match screen {
         Screen::Shut(device) => device,
         Screen::Open(board) => board.shut(),
-    }
-}
-
-// Runs both lists under the cipher that was chosen.
-fn run_by_kind<D: SlotDevice + Drop, F: SlotDevice + Drop>(
-    heap: Global,
-    kind: Kind,
-    one: D,
-    two: F,
-    first: &mut [Entry],
-    second: &mut [Entry],
-    table: &mut Vec<String>,
-) -> Result<(), Fault> {
-    match kind {
-        Kind::Aes128 => run_both::<Aes128, D, F>(heap, one, two, first, second, table),
-        Kind::Speck128 => run_both::<Speck128, D, F>(heap, one, two, first, second, table),
-    }
-}
-
-// With the first device made, makes the second one and runs.
-fn run_over<D: SlotDevice + Drop>(
-    heap: Global,
-    kind: Kind,
-    one: D,
-    layout: Layout,
-    first: &mut [Entry],
-    second: &mut [Entry],
-    table: &mut Vec<String>,
-) -> Result<(), Fault> {
-    let mut memory = vec![in heap; 0; layout.size()]?;
-    match layout {
-        Layout::Tray { slots, longest } => {
-            Tray::set_out(memory.as_mut_slice(), slots, longest)?;
-            Tray::check(memory.as_slice(), slots, longest)?;
-            let two = Tray::attach(memory.as_mut_slice(), slots, longest);
-            run_by_kind(heap, kind, one, two, first, second, table)
-        }
-        Layout::Chain {
-            slots,
-            longest,
-            cells,
-        } => {
-            Chain::set_out(memory.as_mut_slice(), slots, longest, cells)?;
-            Chain::check(memory.as_slice(), slots, longest, cells)?;
-            let two = Chain::attach(memory.as_mut_slice(), slots, longest, cells);
-            run_by_kind(heap, kind, one, two, first, second, table)
-        }
-    }
-}
-
-// Sets out both devices and runs both lists.
-fn run_on(
-    heap: Global,
-    kind: Kind,
-    one: Layout,
-    two: Layout,
-    first: &mut [Entry],
-    second: &mut [Entry],
-    table: &mut Vec<String>,
-) -> Result<(), Fault> {
-    let mut memory = vec![in heap; 0; one.size()]?;
-    match one {
-        Layout::Tray { slots, longest } => {
-            Tray::set_out(memory.as_mut_slice(), slots, longest)?;
-            Tray::check(memory.as_slice(), slots, longest)?;
-            let device = Tray::attach(memory.as_mut_slice(), slots, longest);
-            run_over(heap, kind, device, two, first, second, table)
-        }
-        Layout::Chain {
-            slots,
-            longest,
-            cells,
-        } => {
-            Chain::set_out(memory.as_mut_slice(), slots, longest, cells)?;
-            Chain::check(memory.as_slice(), slots, longest, cells)?;
-            let device = Chain::attach(memory.as_mut_slice(), slots, longest, cells);
-            run_over(heap, kind, device, two, first, second, table)
-        }
     }
 }

@@ -1,6 +1,5 @@
 #![tactic(auto)]
 // Looks into one slot device: reads commands, one a line, and answers each with one line.
-mod calls;
 mod session;
 
 use session::Session;
@@ -13,6 +12,7 @@ use text::read_line;
 fn answer_all<R: BufRead, W: Write>(heap: Global, input: &mut R, output: &mut W) -> io::Result<()> {
     let mut session = Session::new();
     let mut line = Vec::new(heap);
+    // `lines` would end at a line that is not text, and `split` makes a new buffer for each
     for _ in 0..u64::MAX {
         if !read_line(input, &mut line)? {
             break;

@@ -1,12 +1,10 @@
 -- What the calls of a tray answer.
-use Rattle.std.proofs.Common.{◌≡◌, ℕ, ◌<◌, ◌≤◌, List, [], ◌∷◌, get_or, set, Ok, Err, sym, refl, ap, ◌∙◌, arith}
+use Rattle.std.proofs.Common.{◌≡◌, ℕ, ◌<◌, ◌≤◌, List, [], ◌∷◌, set, Ok, refl, ◌∙◌, arith}
 use Rattle.std.proofs.lemmas.List.Sums.{sum_by-cons}
 use Rattle.std.proofs.lemmas.Bool.{lt-leb, le-ltb}
-use Rattle.base.specs.declared.refusals.Refusal.TheVariants.{EmptySlot}
 use Rattle.devices.specs.Slots.{Slot, nothing, row, units_in, units_held}
-use Rattle.devices.specs.Answers.{write_answer, length_answer}
-use Rattle.tray.specs.Layout.{tray_shape, tray_held}
-use Rattle.tray.specs.Soundness.{Standing}
+use Rattle.devices.specs.Answers.{write_answer}
+use Rattle.tray.specs.Layout.{tray_shape}
 
 -- no row of a tray costs units
 no_units : (s m : ℕ) (held : List Slot) → units_held (tray_shape s m) held ≡ 0
@@ -16,9 +14,3 @@ no_units s m (row r ∷ held) = sum_by-cons (units_in (tray_shape s m)) (row r) 
 
 pub admitted : (s m : ℕ) (held : List Slot) (i n : ℕ) → i < s → 16 ≤ n → n ≤ m → Ok 0 ≡ write_answer (tray_shape s m) held i n
 admitted s m held i n h low high = rw (lt-leb s i h, le-ltb n 16 low, le-ltb m n high, no_units s m (set held i nothing)) refl
-
-pub look_empty : (s m : ℕ) (held : List Slot) (i : ℕ) → i < s → get_or held i nothing ≡ nothing → Err EmptySlot ≡ length_answer (tray_shape s m) held i
-look_empty s m held i h e = rw (lt-leb s i h, e) refl
-
-pub look_row : (s m : ℕ) (memory : List ℕ) (i n : ℕ) → i < s → Standing s m memory i n → Ok n ≡ length_answer (tray_shape s m) (tray_held s m memory) i
-look_row s m memory i n h t = rw (lt-leb s i h, t.is) (ap Ok (sym t.long))

@@ -1,4 +1,3 @@
-pub mod Filling
 pub mod Reading
 pub mod Checking
 pub mod Putting

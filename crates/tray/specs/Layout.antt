@@ -1,6 +1,7 @@
 -- The tray: memory with one cell for each slot. A cell is a length in two bytes, lowest first and zero for nothing,
 -- then the row, then zeros, and with m bytes for the longest row it has 2 + m bytes.
-use Rattle.std.specs.Prelude.{◌≡◌, ℕ, zero, suc, ◌+◌, ◌-◌, ◌*◌, ◌/◌, ◌%◌, Bool, true, cond, not, ◌&&◌, List, [], ◌∷◌, ◌++◌, map, length, take, drop, Ok, Err, ◌==◌, nat_le, slice_index}
+use Rattle.std.specs.Prelude.{◌≡◌, ℕ, zero, suc, ◌+◌, ◌-◌, ◌*◌, ◌/◌, ◌%◌, Bool, true, cond, not, ◌&&◌, List, [], ◌∷◌, ◌++◌, map, length, take, drop, Option, Some, None, Ok, Err, ◌==◌, nat_le, slice_index}
+use Rattle.std.specs.Borrow.{Bor}
 use Rattle.std.specs.List.{range_with_len}
 use Rattle.base.specs.declared.refusals.Refusal.TheVariants.{BadDimensions, MalformedMemory}
 use Rattle.base.specs.Bytes.{AllBytes, zeros, all_zero}
@@ -14,6 +15,11 @@ abbrev pub tray_shape : ℕ → ℕ → Shape
 tray_shape s m = record { slots = s; longest = m; units = λ _. 0; total = 0 }
 
 -- ---- cells
+
+-- a slot with these bytes for a row, or with nothing
+abbrev pub slot_with : Option (Bor (List ℕ)) → Slot
+slot_with None = nothing
+slot_with (Some r) = row r.now
 
 -- the cell that says what a slot holds
 abbrev pub cell_of : ℕ → Slot → List ℕ

@@ -10,8 +10,8 @@ memory_of t = t.memory.bytes.now
 
 -- its slots and its longest row; no row costs units
 abbrev pub shape_of : Tray → Shape
-shape_of t = tray_shape t.slots t.longest
+shape_of t = tray_shape t.layout.slots t.layout.longest
 
 -- what each slot holds
 abbrev pub held_in : Tray → List Slot
-held_in t = tray_held t.slots t.longest (memory_of t)
+held_in t = tray_held t.layout.slots t.layout.longest (memory_of t)

@@ -1,5 +1,5 @@
 -- A tray's shape and the rows in its memory are within the limits.
-use Rattle.std.specs.Prelude.{◌≡◌, ℕ, zero, suc, ◌+◌, ◌*◌, ◌<◌, ◌≤◌, Bool, true, false, cond, ◌&&◌, List, length, get_or, take, drop, ◌==◌, nat_le, slice_index_or, slice_set}
+use Rattle.std.specs.Prelude.{◌≡◌, ℕ, zero, suc, ◌+◌, ◌*◌, ◌<◌, ◌≤◌, Bool, true, false, cond, ◌&&◌, List, length, take, drop, ◌==◌, nat_le, slice_index_or}
 use Rattle.std.proofs.Common.{ap, ◌∙◌, inl, inr, arith, add-mul, one-mul}
 use Rattle.std.proofs.lemmas.List.{length-drop, length-take-le}
 use Rattle.std.proofs.lemmas.List.FromFn.{length-map-range_with_len, get_or-map-range_with_len}
@@ -8,25 +8,12 @@ use Rattle.std.proofs.lemmas.Bool.{and_parts, leb-true, cases_eq}
 use Rattle.base.specs.Bytes.{AllBytes, all_zero}
 use Rattle.base.proofs.Strings.{take_bytes, drop_bytes}
 use Rattle.devices.specs.Limits.{most_slots, shortest_row, longest_row}
-use Rattle.devices.specs.Slots.{Slot, nothing, row, Sound, RowFits}
+use Rattle.devices.specs.Slots.{nothing, row, Sound, RowFits}
 use Rattle.tray.specs.Layout.{tray_shape, cell_length, slot_of, cell_formed, cell_at, tray_held, cells_formed}
 
 -- n bytes are a tray's memory: `tray_fits`, part by part
 abbrev pub TrayDimensions : ℕ → ℕ → ℕ → Type 0
 TrayDimensions s m n = (1 ≤ s) × (s ≤ most_slots) × (shortest_row ≤ m) × (m ≤ longest_row) × (n ≡ s * (2 + m))
-
--- slot i holds a row of n bytes, which stands in the memory behind the length
-pub record Standing (s m : ℕ) (memory : List ℕ) (i n : ℕ) : Type 0 where
-  pub is : get_or (tray_held s m memory) i nothing ≡ row (take n (drop (i * (2 + m) + 2) memory))
-  pub long : length (take n (drop (i * (2 + m) + 2) memory)) ≡ n
-  pub high : n ≤ m
-
--- `after` is still the memory of such a tray; slot i holds x, and the other slots what they held
-pub record Put (s m : ℕ) (memory : List ℕ) (i : ℕ) (x : Slot) (after : List ℕ) : Type 0 where
-  pub dims : TrayDimensions s m (length after)
-  pub formed : cells_formed s m after ≡ true
-  pub bytes : AllBytes after
-  pub held : tray_held s m after ≡ slice_set (tray_held s m memory) i x
 
 -- the cell of a slot ends before that of a later slot begins
 pub cell_below : (w i j : ℕ) → i < j → i * w + w ≤ j * w

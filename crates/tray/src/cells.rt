@@ -1,114 +1,108 @@
-// The memory of a tray, cell by cell.
-ghost use Rattle.std.specs.Prelude.{◌≡◌, ◌+◌, ◌*◌, ◌<◌, ◌≤◌, true, ◌++◌, length, take, drop};
-ghost use Rattle.base.specs.Bytes.{AllBytes};
-ghost use Rattle.devices.specs.Slots.{nothing, row as row_of};
-ghost use Rattle.tray.specs.Layout.{cell_of, cell_length, cell_at, cell_formed, cells_formed, put_cell};
-ghost use Rattle.tray.specs.Soundness.{TrayDimensions, Put};
+// The cells of a tray's memory.
+ghost use Rattle.std.specs.Prelude.{◌≡◌, ◌+◌, ◌-◌, ◌*◌, ◌<◌, ◌≤◌, true, ◌&&◌, length, nat_le, drop, slice_index_or, slice_set};
+ghost use Rattle.devices.specs.Slots.{nothing, RowFits};
+ghost use Rattle.devices.specs.Answers.{bytes_in};
+ghost use Rattle.tray.specs.Layout.{cell_of, cell_length, slot_of, slot_with, cell_at, cell_formed, put_cell};
+ghost use Rattle.tray.specs.Meaning.{shape_of, memory_of, held_in};
 
+use crate::{Layout, Tray};
 use base::{all_zero, wipe};
+use std::ops::Range;
 
-// Writes the cell of a row: its length, the row, then zeros.
-fn fill_cell(cell: &mut [u8], longest: usize, row: &[u8])
-    requires high { length row.now ≤ longest }
-    requires limit { longest ≤ 1000 }
-    requires room { length cell.old ≡ 2 + longest }
-    ensures cell { cell.new ≡ cell_of longest (row_of row.now) }
-    ensures bytes { AllBytes row.now }
+// The length that a cell states, and the bytes behind it. Here and below a cell has two bytes at least: a struct for that would be
+// longer than the clause.
+fn parts(cell: &[u8]) -> (usize, &[u8])
+    requires { 2 ≤ length cell.now }
+    ensures length { result.0 ≡ cell_length cell.now }
+    ensures rest { result.1.now ≡ drop 2 cell.now }
 {
-    let n = row.len();
-    cell[0] = (n % 256) as u8;
-    cell[1] = (n / 256) as u8;
-    cell[2..2 + n].copy_from_slice(row);
-    cell[2 + n..].fill(0);
+    let (length, rest) = cell.split_at(2);
+    (u16::from_le_bytes([length[0], length[1]]) as usize, rest)
 }
 
 // Whether a cell is well formed.
-pub(crate) fn cell_formed(cell: &[u8], longest: usize) -> bool
-    requires limit { longest ≤ 1000 }
-    requires room { length cell.now ≡ 2 + longest }
-    ensures { result ≡ cell_formed longest cell.now }
+pub(crate) fn cell_formed(cell: &[u8]) -> bool
+    requires { 2 ≤ length cell.now }
+    ensures { result ≡ cell_formed (length cell.now - 2) cell.now }
 {
-    let n = cell[0] as usize + 256 * (cell[1] as usize);
+    let (n, rest) = parts(cell);
     if n == 0 {
-        return all_zero(&cell[2..]);
+        return all_zero(rest);
     }
-    n >= 16 && n <= longest && all_zero(&cell[2 + n..])
+    (16..=rest.len()).contains(&n) && all_zero(&rest[n..])
 }
 
-// The memory of a tray.
-#[derive(Drop)]
-pub struct Cells<'a> {
-    pub bytes: &'a mut [u8],
+// The row in a well-formed cell, if there is one.
+fn row_in(cell: &[u8]) -> Option<&[u8]>
+    requires room { 2 ≤ length cell.now }
+    requires formed { cell_formed (length cell.now - 2) cell.now ≡ true }
+    ensures { slot_with result ≡ slot_of cell.now }
+{
+    let (n, rest) = parts(cell);
+    if n == 0 {
+        return None;
+    }
+    Some(&rest[..n])
 }
 
-impl Cells<'_> {
-    // Writes the cell of a row.
-    fn put(&mut self, slot: usize, longest: usize, row: &[u8])
-        requires high { length row.now ≤ longest }
-        requires limit { longest ≤ 1000 }
-        requires room { slot * (2 + longest) + (2 + longest) ≤ length self.old.bytes.now }
-        ensures memory { self.new.bytes.now ≡ put_cell longest self.old.bytes.now slot (cell_of longest (row_of row.now)) }
-        ensures bytes { AllBytes row.now }
+// Makes a cell that of a row, or of nothing: the row's length, the row, then zeros.
+fn fill_cell(cell: &mut [u8], row: Option<&[u8]>)
+    requires room { 2 ≤ length cell.old }
+    requires limit { length cell.old ≤ 1002 }
+    requires fits { length (bytes_in (slot_with row)) + 2 ≤ length cell.old }
+    ensures { cell.new ≡ cell_of (length cell.old - 2) (slot_with row.entry) }
+{
+    wipe(cell);
+    if let Some(row) = row {
+        let n = row.len();
+        cell[..2].copy_from_slice(&(n as u16).to_le_bytes());
+        cell[2..2 + n].copy_from_slice(row);
+    }
+}
+
+impl Layout {
+    // How long a cell is.
+    pub(crate) fn cell_len(self) -> usize
+        requires { self.longest ≤ 1000 }
+        ensures { result ≡ 2 + self.longest }
     {
-        let at = slot * (2 + longest);
-        fill_cell(&mut self.bytes[at..at + (2 + longest)], longest, row);
+        2 + self.longest
+    }
+}
+
+impl Tray<'_> {
+    // Where the slot's cell begins, and where it ends.
+    fn place(&self, slot: usize) -> Range<usize>
+        requires { slot < self.now.layout.slots }
+        ensures from { result.start ≡ slot * (2 + self.now.layout.longest) }
+        ensures to { result.end ≡ slot * (2 + self.now.layout.longest) + (2 + self.now.layout.longest) }
+        ensures room { result.end ≤ length (memory_of self.now) }
+    {
+        let n = self.layout.cell_len();
+        let from = slot * n;
+        from..from + n
     }
 
-    // Zeroes a cell.
-    fn zero(&mut self, slot: usize, longest: usize)
-        requires limit { longest ≤ 1000 }
-        requires room { slot * (2 + longest) + (2 + longest) ≤ length self.old.bytes.now }
-        ensures { self.new.bytes.now ≡ put_cell longest self.old.bytes.now slot (cell_of longest nothing) }
+    // What the slot holds: a row, or nothing.
+    pub(crate) fn row_at(&self, slot: usize) -> Option<&[u8]>
+        requires { slot < self.now.layout.slots }
+        ensures { slot_with result ≡ slice_index_or (held_in self.now) slot nothing }
     {
-        let at = slot * (2 + longest);
-        wipe(&mut self.bytes[at..at + (2 + longest)]);
+        row_in(&self.memory.bytes[self.place(slot)])
     }
 
-    // The length that a cell states.
-    pub(crate) fn row_length(&self, slot: usize, longest: usize) -> usize
-        requires limit { longest ≤ 1000 }
-        requires room { slot * (2 + longest) + (2 + longest) ≤ length self.now.bytes.now }
-        ensures { result ≡ cell_length (cell_at longest self.now.bytes.now slot) }
+    // Makes the slot hold a row, or nothing. A slot's number is checked before, in `look` and `admit`: no type of the number alone can
+    // say that there is such a slot.
+    pub(crate) fn put(&mut self, slot: usize, row: Option<&[u8]>)
+        requires inside { slot < self.old.layout.slots }
+        requires fits { RowFits (shape_of self.old) (slot_with row) }
+        ensures layout { self.new.layout ≡ self.old.layout }
+        ensures memory { memory_of self.new ≡ put_cell self.old.layout.longest (memory_of self.old) slot (cell_of self.old.layout.longest (slot_with row.entry)) }
+        ensures held { held_in self.new ≡ slice_set (held_in self.old) slot (slot_with row.entry) }
     {
-        let at = slot * (2 + longest);
-        self.bytes[at] as usize + 256 * (self.bytes[at + 1] as usize)
-    }
-
-    // Copies the first `n` bytes of the row in a cell into the buffer's first bytes.
-    pub(crate) fn copy_row(&self, slot: usize, longest: usize, n: usize, buffer: &mut [u8])
-        requires limit { longest ≤ 1000 }
-        requires room { slot * (2 + longest) + (2 + longest) ≤ length self.now.bytes.now }
-        requires high { n ≤ longest }
-        requires buffer { n ≤ length buffer.old }
-        ensures { buffer.new ≡ take n (drop (slot * (2 + longest) + 2) self.now.bytes.now) ++ drop n buffer.old }
-    {
-        let at = slot * (2 + longest) + 2;
-        buffer[0..n].copy_from_slice(&self.bytes[at..at + n]);
-    }
-
-    // Puts a row into a slot of the tray in this memory.
-    pub(crate) fn keep(&mut self, slots: usize, longest: usize, slot: usize, row: &[u8])
-        requires dims { TrayDimensions slots longest (length self.old.bytes.now) }
-        requires formed { cells_formed slots longest self.old.bytes.now ≡ true }
-        requires bytes { AllBytes self.old.bytes.now }
-        requires inside { slot < slots }
-        requires low { 16 ≤ length row.now }
-        requires high { length row.now ≤ longest }
-        ensures memory { self.new.bytes.now ≡ put_cell longest self.old.bytes.now slot (cell_of longest (row_of row.now)) }
-        ensures put { Put slots longest self.old.bytes.now slot (row_of row.now) self.new.bytes.now }
-    {
-        self.put(slot, longest, row);
-    }
-
-    // Empties a slot of the tray in this memory.
-    pub(crate) fn forget(&mut self, slots: usize, longest: usize, slot: usize)
-        requires dims { TrayDimensions slots longest (length self.old.bytes.now) }
-        requires formed { cells_formed slots longest self.old.bytes.now ≡ true }
-        requires bytes { AllBytes self.old.bytes.now }
-        requires inside { slot < slots }
-        ensures memory { self.new.bytes.now ≡ put_cell longest self.old.bytes.now slot (cell_of longest nothing) }
-        ensures put { Put slots longest self.old.bytes.now slot nothing self.new.bytes.now }
-    {
-        self.zero(slot, longest);
+        let place = self.place(slot);
+        // By itself, since a part of the memory of a tray can't be lent in the same step.
+        let memory = &mut self.memory;
+        fill_cell(&mut memory.bytes[place], row);
     }
 }

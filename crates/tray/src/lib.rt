@@ -9,15 +9,25 @@ mod attaching;
 pub mod calls;
 mod cells;
 
-use cells::Cells;
+// How many slots a tray has, and how long its longest row may be.
+#[derive(Clone, Copy, PartialEq, Eq, Debug)]
+pub struct Layout {
+    pub slots: usize,
+    pub longest: usize,
+}
+
+// The bytes of a tray's memory, in a struct of their own because no fact may stand right beside a `&mut`.
+#[derive(Drop)]
+struct Memory<'a> {
+    bytes: &'a mut [u8],
+}
 
 // A tray: a device in memory with one cell for each slot.
 #[derive(Drop)]
 pub struct Tray<'a> {
-    memory: Cells<'a>,
-    slots: usize,
-    longest: usize,
-    ghost dims: { TrayDimensions slots longest (length memory.bytes.now) },
-    ghost formed: { cells_formed slots longest memory.bytes.now ≡ true },
+    memory: Memory<'a>,
+    layout: Layout,
+    ghost dims: { TrayDimensions layout.slots layout.longest (length memory.bytes.now) },
+    ghost formed: { cells_formed layout.slots layout.longest memory.bytes.now ≡ true },
     ghost bytes: { AllBytes memory.bytes.now },
 }

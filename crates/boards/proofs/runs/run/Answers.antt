@@ -14,7 +14,13 @@ pub loop-e-init : goal.loop-e-init
 loop-e-init g c =
     let D = g.D.SlotDevice in
     let x = c.args.device in
-    (refl, λ quiet. refl, refl, (refl, refl, record { sound = D.sound x; sealed = sym (through_same (D.held x)); real = refl }), tt)
+    record {
+      fixed = refl;
+      kept = λ quiet. refl;
+      rest = refl;
+      shown = (refl, refl, record { sound = D.sound x; sealed = sym (through_same (D.held x)); real = refl });
+      answered = tt;
+    }
 
 pub loop-e-preserved : goal.loop-e-preserved
 loop-e-preserved g c =
@@ -27,18 +33,19 @@ loop-e-preserved g c =
     let is = c.loop-e.list in
     let i = c.loop-e.e-index in
     let x = get_or is i c.e-item.result in
-    let f : Entry = record { call = c.step-then.new.call; reply = c.step-then.result.1 } in
+    let f : Entry = record { call = c.step.new.call; reply = c.step.result.1 } in
     let in' = c.loop-e-test.true in
     let long = c.loop-e.auto.list in
-    let rest = c.loop-e.invariant.2 in
+    let rest = c.loop-e.invariant.rest in
     let read = ap (λ (y : Entry). get_or is i y) c.e-item.is in
-    let new = c.step-then.ensures.shown (D.held c.args.device) s (after k s p (take i was)) c.loop-e.invariant.3 in (
-      c.step-then.ensures.fixed ∙ c.loop-e.invariant.0,
-      λ quiet. let q = quiet_more is i f (omega (arith, long, in')) quiet in c.step-then.ensures.kept (subst (Unchanging f.reply) c.step-then.ensures.asked q.1) ∙ c.loop-e.invariant.1 q.0,
-      more_rest was is i x in' long rest read f,
-      subst (λ (q : Plain). Shown C D (D.held c.args.device) s c.step-then.result.0 q) (sym (more_after was is i x in' long rest read k s p)) new.0,
-      more_answered was is i x in' long rest read k s p f c.loop-e.invariant.4 c.step-then.ensures.asked new.1,
-    )
+    let new = c.step.ensures.shown (D.held c.args.device) s (after k s p (take i was)) c.loop-e.invariant.shown in
+    record {
+      fixed = c.step.ensures.what_never_changes_is_kept ∙ c.loop-e.invariant.fixed;
+      kept = λ quiet. let q = quiet_more is i f (omega (arith, long, in')) quiet in c.step.ensures.state_is_kept_where_no_write_or_clear_was_accepted (subst (Unchanging f.reply) c.step.ensures.asks_the_same q.1) ∙ c.loop-e.invariant.kept q.0;
+      rest = more_rest was is i x in' long rest read f;
+      shown = subst (λ (q : Plain). Shown C D (D.held c.args.device) s c.step.result.0 q) (sym (more_after was is i x in' long rest read k s p)) new.0;
+      answered = more_answered was is i x in' long rest read k s p f c.loop-e.invariant.answered c.step.ensures.asks_the_same new.1;
+    }
 
 pub returns : goal.returns
 returns g c =
@@ -49,10 +56,10 @@ returns g c =
     let p = unopened (D.held c.args.device) in
     let was = c.args.list.now in
     let all = all_taken (λ es fs. Shown C D (D.held c.args.device) s c.loop-e.screen (after k s p es) × Answered k s p es fs × (Quiet fs → D.state (behind c.loop-e.screen) ≡ D.state c.args.device))
-    was c.loop-e.list c.loop-e.e-index c.loop-e-test.false c.loop-e.auto.list (c.loop-e.invariant.3, c.loop-e.invariant.4, c.loop-e.invariant.1) in
+    was c.loop-e.list c.loop-e.e-index c.loop-e-test.false c.loop-e.auto.list (c.loop-e.invariant.shown, c.loop-e.invariant.answered, c.loop-e.invariant.kept) in
     let says = shown_says C D (D.held c.args.device) s c.loop-e.screen (after k s p was) all.0 in
     record {
-      what_never_changes_is_kept = c.loop-e.invariant.0;
+      what_never_changes_is_kept = c.loop-e.invariant.fixed;
       shape_is_kept = says.1;
       open_as_the_plain_board = says.0;
       calls_are_answered_as_the_plain_board_may = all.1;

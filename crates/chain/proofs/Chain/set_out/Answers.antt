@@ -7,11 +7,11 @@ use Rattle.chain.proofs.Chain.set_out.Goals as goal
 
 pub returns : goal.returns
 returns c =
-    let s = c.args.slots in
-    let m = c.args.longest in
-    let k = c.args.cells in
+    let s = c.args.layout.slots in
+    let m = c.args.layout.longest in
+    let k = c.args.layout.cells in
     let n = length c.args.memory.now in
-    let w : wrong_dimensions s m k n ≡ false = sym c.wrong_dimensions.ensures ∙ c.if-wrong_dimensions.false in
+    let w : wrong_dimensions s m k n ≡ false = sym c.is_wrong.ensures ∙ c.if-is_wrong.false in
     let d = right_dimensions s m k n w in
     let z : c.wipe.new.s ≡ zeros n = c.wipe.ensures in
     let e : c.wipe.new.s ≡ zeros (s + 32 * k) = z ∙ ap zeros d.2 in

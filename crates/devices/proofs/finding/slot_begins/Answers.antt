@@ -1,5 +1,6 @@
-use Rattle.std.proofs.Common.{sym, ap, rules}
+use Rattle.std.proofs.Common.{take, sym, ap, ◌∙◌}
 use Rattle.devices.specs.Finding.{begins, slot_begins}
+use Rattle.devices.proofs.FindBegins.{starts_with-bytes}
 use Rattle.devices.proofs.FindReading.{taken}
 use Rattle.devices.proofs.finding.slot_begins.Goals as goal
 
@@ -10,10 +11,7 @@ returns-in-Ok g c =
     let e = c.in-Ok.ensures in
     let t = taken (m.shape d) (m.held d) c.args.slot c.in-Ok.n c.args.work.now c.read.new.buffer (m.sound d) c.requires.inside c.requires.room e.answer e.after in
     record {
-      answer = let p = ap (slot_begins c.args.front.now) (sym t.is) in let q = ap (begins c.args.front.now) t.bytes in search rules;
+      answer = c.starts_with.ensures.value ∙ starts_with-bytes c.args.front.now (take c.in-Ok.n c.read.new.buffer) ∙ ap (begins c.args.front.now) t.bytes ∙ sym (ap (slot_begins c.args.front.now) t.is);
       rest = t.rest;
-      fixed = e.fixed;
-      shape = e.shape;
-      held = e.held;
-      kept = e.kept;
+      device = record { fixed = e.fixed; shape = e.shape; held = e.held; kept = e.kept };
     }

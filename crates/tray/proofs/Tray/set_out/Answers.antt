@@ -1,20 +1,9 @@
-use Rattle.std.proofs.Common.{◌≡◌, ℕ, List, length, sym, ap, ◌∙◌, subst, rules}
-use Rattle.base.specs.Bytes.{zeros}
-use Rattle.tray.specs.Layout.{TrayReady, tray_held}
-use Rattle.tray.specs.Soundness.{TrayDimensions}
+use Rattle.std.proofs.Common.{rules}
 use Rattle.tray.proofs.Putting.{zeros_ready, zeros_held}
 use Rattle.tray.proofs.Tray.set_out.Goals as goal
 
-pub returns : goal.returns
-returns c =
-    let s = c.args.slots in
-    let m = c.args.longest in
-    let n = length c.args.memory.now in
-    let d : TrayDimensions s m n = search rules in
-    let z : c.wipe.new.s ≡ zeros n = c.wipe.ensures in
-    record {
-      answer = search rules;
-      memory = z;
-      ready = subst (λ (t : List ℕ). TrayReady s m t) (sym z) (zeros_ready s m n d.4 (search rules));
-      empty = ap (tray_held s m) z ∙ zeros_held s m n d.4;
-    }
+pub returns-clause-ready : goal.returns-clause-ready
+returns-clause-ready c = zeros_ready c.args.layout.slots c.args.layout.longest _ _ c.wipe.ensures (search rules)
+
+pub returns-clause-empty : goal.returns-clause-empty
+returns-clause-empty c = let d = c.fits.ensures.dims (search rules) in zeros_held c.args.layout.slots c.args.layout.longest _ _ c.wipe.ensures d.4

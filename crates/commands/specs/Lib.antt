@@ -1,0 +1,4 @@
+pub mod Layouts
+pub mod Meaning
+pub mod Wording
+pub mod Answers

@@ -1,8 +1,0 @@
--- The kinds of cipher by their names in a script.
-use Rattle.std.specs.Prelude.{ℕ, List, codes}
-use Rattle.screens.specs.declared.setup.Kind.{Kind}
-use Rattle.screens.specs.declared.setup.Kind.TheVariants.{Aes128, Speck128}
-
-abbrev pub name_of : Kind → List ℕ
-name_of Aes128 = codes "aes128"
-name_of Speck128 = codes "speck128"
