@@ -6,6 +6,7 @@ use crate::calls::{Call, Reply};
 use devices::{SlotDevice, find};
 
 // Makes a call on an open board, or on any device; to open it is out of turn, and to shut it is left to the caller.
+// An accepted call that names no number answers 0.
 pub fn act<D: SlotDevice>(device: &mut D, call: &mut Call) -> Reply
     ensures asked { asked call.new ≡ asked call.old }
     ensures fixed { D.SlotDevice.fixed device.new ≡ D.SlotDevice.fixed device.old }

@@ -33,7 +33,8 @@ impl TryFrom<&[u8]> for Label {
 }
 
 impl Label {
-    // The nonce of a slot: its number in four bytes, the lowest first, and the label.
+    // The nonce of a slot: its number in four bytes, the lowest first, and the label. That there is such a slot no type of the number
+    // alone can say.
     pub(crate) fn nonce(&self, slot: usize) -> [u8; 16]
         requires { slot < 64 }
         ensures { result ≡ (context_of slot self.now.bytes).nonce }

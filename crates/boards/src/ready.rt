@@ -31,6 +31,7 @@ impl<C: BlockCipher> Ready<C> {
     }
 
     // Seals a row of the slot where it lies; opening it gives it back. Apart from `open_row`, since each states something else.
+    // That there is such a slot no type of the number alone can say, here and below.
     pub(crate) fn seal_row(&self, slot: usize, row: &mut [u8])
         requires slot { slot < most_slots }
         requires row { RowOf (mode_kind C.BlockCipher) row.old }

@@ -19,7 +19,8 @@ pub enum Screen<C: BlockCipher, D> {
 }
 
 impl<C: BlockCipher + Drop, D: SlotDevice> Screen<C, D> {
-    // One call: while no board is open only an opening is in turn, and while one is open an opening is not.
+    // One call: while no board is open only an opening is in turn, and while one is open an opening is not. An accepted call that names
+    // no number answers 0.
     fn step(self, call: &mut Call) -> (Self, Reply)
         ensures { Stepped C.BlockCipher D.SlotDevice self call.old call.new result.0 result.1 }
     {

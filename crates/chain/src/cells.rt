@@ -39,7 +39,8 @@ impl Cells<'_> {
     }
 }
 
-// The owner's bytes, on loan, in a struct of their own because no fact may stand right beside a `&mut`.
+// The owner's bytes, on loan, in a struct of their own because no fact may stand right beside a `&mut`. The tray has one too, with
+// other calls on it.
 #[derive(Drop)]
 pub struct Loan<'a> {
     pub bytes: &'a mut [u8],

@@ -91,6 +91,7 @@ pub(crate) fn well_formed(memory: &[u8], layout: Layout) -> bool
         bytes,
         count: layout.cells,
     };
+    // a flag for each number that a cell can have, since nothing is allocated
     let mut met = [false; 256];
     cells.follow_all(heads, layout.longest, &mut met) && cells.rest_zero(&met)
 }

@@ -14,7 +14,7 @@ pub struct Layout {
 }
 
 impl Layout {
-    // Whether a dimension is out of range, or `len` bytes are not the layout's.
+    // Whether a dimension is out of range, or `len` bytes are not the layout's; by comparison, as the definition has it.
     pub(crate) fn is_wrong(self, len: usize) -> bool
         ensures { result ≡ wrong_dimensions self.slots self.longest self.cells len }
     {

@@ -7,7 +7,8 @@ use base::Refusal;
 
 // A device keeps rows in numbered slots. A ghost member says what an implementation means, and each call is an
 // equation with that meaning, for every argument. A declined call, a read and a question leave `state` as found. An
-// accepted call answers a number, which is 0 where none is named.
+// accepted call answers a number, which is 0 where none is named. Each call states its clauses one by one, since callers read
+// them one by one.
 pub trait SlotDevice {
     // what no call ever changes
     ghost Fixed: { Type 0 };

@@ -7,7 +7,8 @@ ghost use Rattle.devices.specs.Leaving.{Unchanged};
 use crate::device::SlotDevice;
 use base::{Refusal, wipe};
 
-// Whether the slot's row begins with `front`; the row is read into the work buffer.
+// Whether the slot's row begins with `front`; the row is read into the work buffer. That there is such a slot no type of the number
+// alone can say.
 fn slot_begins<D: SlotDevice>(device: &mut D, slot: usize, front: &[u8], work: &mut [u8]) -> bool
     requires room { (D.shape device.old).longest ≤ length work.old }
     requires inside { slot < (D.shape device.old).slots }
@@ -38,7 +39,8 @@ fn first_match<D: SlotDevice>(device: &mut D, front: &[u8], work: &mut [u8]) -> 
 }
 
 // A slot whose row begins with `front`, or none if no row does. The first bytes of the work buffer,
-// as many as the longest row, are used and then zero.
+// as many as the longest row, are used and then zero. What it leaves of the device is spelled out and not `Unchanged`, since callers
+// read the clauses one by one.
 pub fn find<D: SlotDevice>(
     device: &mut D,
     front: &[u8],

@@ -12,7 +12,8 @@ use text::read_line;
 // Takes every line of the input into the script.
 fn take_all<R: BufRead>(heap: Global, input: &mut R, script: &mut Script) -> io::Result<()> {
     let mut line = Vec::new(heap);
-    // `lines` would end at a line that is not text, and `split` makes a new buffer for each
+    // `lines` would end at a line that is not text, and `split` makes a new buffer for each; as in the other programs, a few lines
+    // around its own commands
     for _ in 0..u64::MAX {
         if !read_line(input, &mut line)? {
             break;

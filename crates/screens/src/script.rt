@@ -90,7 +90,7 @@ impl Script {
         }
     }
 
-    // Takes one line of the script.
+    // Takes one line of the script. As in the other programs, a few lines around its own commands.
     pub fn take(&mut self, heap: Global, line: &[u8]) -> Result<(), AllocError> {
         if let Err(fault) = self.try_take(heap, line) {
             let answer = fault.answer(heap)?;
@@ -115,6 +115,7 @@ impl Script {
         }
     }
 
+    // a match, here and below, since the screen is known only when a line is read
     fn side(&self, which: Which) -> &Side {
         match which {
             Which::One => &self.one,

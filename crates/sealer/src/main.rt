@@ -15,7 +15,8 @@ fn main(rt: HostRuntime) -> io::Result<()> {
     let mut input = BufReader::new(heap, rt.stdin())?;
     let mut output = BufWriter::new(heap, rt.stdout())?;
     let mut line = Vec::new(heap);
-    // `lines` would end at a line that is not text, and `split` makes a new buffer for each
+    // `lines` would end at a line that is not text, and `split` makes a new buffer for each; as in the other programs, a few lines
+    // around its own commands
     for _ in 0..u64::MAX {
         if !read_line(&mut input, &mut line)? {
             break;

@@ -26,7 +26,7 @@ pub struct Sealing {
 
 // Four steps of one shape, each with a contract of its own.
 impl Sealing {
-    // Reads the words of a command after its name.
+    // Reads the words of a command after its name. No `TryFrom`, since it takes memory.
     pub fn read(heap: Global, words: &[&str]) -> Result<Sealing, Fault>
         ensures { MatchResult result (Reads (map (λ w. w.now) words.now)) (λ fault. AtFaultOrFull fault ((s : Sealing) → Reads (map (λ w. w.now) words.now) s → ⊥)) }
     {

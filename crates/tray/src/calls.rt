@@ -1,4 +1,4 @@
-// The calls of a tray as a device.
+// The calls of a tray as a device. An accepted call answers a number, which is 0 where none is named.
 ghost use Rattle.std.specs.Prelude.{◌≡◌, ℕ, ◌<◌, ◌≤◌, false, List, length, is_ok, IfOk, OnOk, MatchResult, slice_index_or};
 ghost use Rattle.devices.specs.Slots.{nothing, row as row_of, Shape};
 ghost use Rattle.devices.specs.Answers.{write_answer, held_after_write, row_after_write, clear_answer, held_after_clear, length_answer};

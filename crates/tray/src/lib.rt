@@ -16,7 +16,8 @@ pub struct Layout {
     pub longest: usize,
 }
 
-// The bytes of a tray's memory, in a struct of their own because no fact may stand right beside a `&mut`.
+// The bytes of a tray's memory, in a struct of their own because no fact may stand right beside a `&mut`. The chain has one too, with
+// other calls on it.
 #[derive(Drop)]
 struct Memory<'a> {
     bytes: &'a mut [u8],

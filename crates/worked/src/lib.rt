@@ -5,7 +5,7 @@ ghost use Rattle.worked.specs.Worked.{WorkedExamples};
 
 use chain::chain_examples;
 
-// The examples are what it promises.
+// The examples are what it promises; its answer, 0, says nothing more.
 pub fn worked_examples() -> usize
     ensures answer { result ≡ 0 }
     ensures examples { WorkedExamples }
