@@ -134,6 +134,11 @@ module _ (v q : ℕ) (small : q < 2 ^ suc v) where
       (xor_lt (suc v + n) (c % 2 ^ (suc v + n)) (scaled (c / 2 ^ (suc v + n)) (q * 2 ^ n)) (mod-lt c (pow_pos (suc v + n)))
       (scaled_lt (suc v + n) (c / 2 ^ (suc v + n)) (q * 2 ^ n) (shl_lt (suc v) n small)))
 
+  remainder_lt : (n c : ℕ) → c < 2 ^ (suc v + n) → remainder (suc v) modulus n c < 2 ^ suc v
+  unfolding remainder
+  remainder_lt zero c h = subst (λ (x : ℕ). c < 2 ^ x) (add-zero (suc v)) h
+  remainder_lt (suc n) c h = remainder_lt n (reduced n c) (reduced_lt n c (subst (λ (x : ℕ). c < 2 ^ x) (add-suc (suc v) n) h))
+
   -- ---- one place up, then the remainder: the remainder doubled
 
   same_top : (n c : ℕ) → coefficient (suc v + suc n) (c * 2) ≡ coefficient (suc v + n) c

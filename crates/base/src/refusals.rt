@@ -37,14 +37,12 @@ impl Refusal {
     {
         self as usize
     }
-}
 
-// Prints the name that the refusal is reported by, spelled out since the contract states each name.
-impl fmt::Display for Refusal {
-    ghost output = { λ refusal. Some (name_of refusal) };
-
-    fn fmt<W: fmt::Write>(&self, f: &mut fmt::Formatter<W>) -> fmt::Result {
-        f.write_str(match self {
+    // The name that the refusal is reported by, spelled out since the contract states each name.
+    pub fn name(self) -> &'static str
+        ensures { result.now ≡ name_of self }
+    {
+        match self {
             Refusal::BadDimensions => "BadDimensions",
             Refusal::MalformedMemory => "MalformedMemory",
             Refusal::WrongKeyLength => "WrongKeyLength",
@@ -55,7 +53,16 @@ impl fmt::Display for Refusal {
             Refusal::BufferTooShort => "BufferTooShort",
             Refusal::NoRoom => "NoRoom",
             Refusal::NotGenuine => "NotGenuine",
-        })
+        }
+    }
+}
+
+// Prints the name.
+impl fmt::Display for Refusal {
+    ghost output = { λ refusal. Some (name_of refusal) };
+
+    fn fmt<W: fmt::Write>(&self, f: &mut fmt::Formatter<W>) -> fmt::Result {
+        f.write_str(self.name())
     }
 }
 

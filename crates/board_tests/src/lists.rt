@@ -1,23 +1,10 @@
 // A list of calls on a screen whose device is itself a board.
-ghost use Rattle.std.specs.Prelude.{◌≡◌};
-ghost use Rattle.boards.specs.Screens.{behind};
-
 use base::Refusal;
-use boards::{Board, Call, Entry, Ready, Reply, Screen, run};
-use ciphers::{Aes128, BlockCipher, Speck128};
+use boards::{Board, Call, Entry, Ready, Reply, Screen, run_on_board};
+use ciphers::{Aes128, Speck128};
 use devices::SlotDevice;
 use std::process::Abort;
 use std::test::Fail;
-
-// Runs a list over a board; as `run` promises, the board keeps its keys, its label and its device.
-fn run_on_board<C: BlockCipher + Drop, B: BlockCipher, D: SlotDevice>(
-    lower: Board<B, D>,
-    list: &mut [Entry],
-) -> Screen<C, Board<B, D>>
-    ensures { ((behind result).ready ≡ lower.ready) × (D.SlotDevice.fixed (behind result).device ≡ D.SlotDevice.fixed lower.device) }
-{
-    run(lower, list)
-}
 
 // A call, not answered yet; the program `screens` has the same, with a contract, of the words of a call.
 fn entry(call: Call) -> Entry {

@@ -8,7 +8,7 @@ use Rattle.base.proofs.Strings.{append_bytes, zeros_bytes, take_bytes}
 use borrow.Rule.Slice.PartMut.{put_mid}
 use Rattle.boards.specs.Contexts.{label_limit, padded_label, context_of}
 
-padded_long : (label : List ℕ) → length label ≤ label_limit → length (padded_label label) ≡ 12
+pub padded_long : (label : List ℕ) → length label ≤ label_limit → length (padded_label label) ≡ 12
 unfolding padded_label
 padded_long label h = length-append label (zeros (12 - length label)) ∙ ap (λ (n : ℕ). length label + n) (length-replicate (12 - length label) 0) ∙ omega arith
 
@@ -36,7 +36,7 @@ unfolding padded_label
 copied_label label copy e h = ap (λ (c : List ℕ). c ++ drop (length label) (zeros 12)) e ∙ ap (λ (z : List ℕ). label ++ z) (drop-replicate (length label) 12 0)
 
 -- a slot's number and a label side by side
-nonce_made : (slot : ℕ) (number label : List ℕ) → number ≡ bytes 4 slot → length label ≡ 12 → number ++ label ≡ (context_of slot label).nonce
+pub nonce_made : (slot : ℕ) (number label : List ℕ) → number ≡ bytes 4 slot → length label ≡ 12 → number ++ label ≡ (context_of slot label).nonce
 unfolding context_of
 nonce_made slot number label e h = ap (λ (x : List ℕ). x ++ label) e ∙ ap (λ (x : List ℕ). bytes 4 slot ++ x) (sym (padded_again label h))
 

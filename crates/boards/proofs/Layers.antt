@@ -35,10 +35,10 @@ module _ (f : ℕ → List ℕ → List ℕ) where
   long_on n nothing = refl
   long_on n (row r) = as_long r (f n r)
 
-  nothing_through : (xs : List Slot) (n : ℕ) → is_nothing (get_or (through (keeping_length f) xs) n nothing) ≡ is_nothing (get_or xs n nothing)
+  pub nothing_through : (xs : List Slot) (n : ℕ) → is_nothing (get_or (through (keeping_length f) xs) n nothing) ≡ is_nothing (get_or xs n nothing)
   nothing_through xs n = ap is_nothing (get_or_through (keeping_length f) xs n) ∙ nothing_on n (get_or xs n nothing)
 
-  long_through : (xs : List Slot) (n : ℕ) → length (bytes_at (through (keeping_length f) xs) n) ≡ length (bytes_at xs n)
+  pub long_through : (xs : List Slot) (n : ℕ) → length (bytes_at (through (keeping_length f) xs) n) ≡ length (bytes_at xs n)
   long_through xs n = ap (λ (x : Slot). length (bytes_in x)) (get_or_through (keeping_length f) xs n) ∙ long_on n (get_or xs n nothing)
 
   pub write_through : (s : Shape) (xs : List Slot) (n len : ℕ) → write_answer s (through (keeping_length f) xs) n len ≡ write_answer s xs n len

@@ -8,11 +8,11 @@ use Rattle.boards.specs.Kinds.{Kind}
 use Rattle.boards.specs.Plain.{Plain, asked, buffer_of, Unchanging, next, May, Answered, after}
 
 module _ (k : Kind) (s : Shape) where
-  after_push : (p : Plain) (es : List Entry) (e : Entry) → after k s p (es ++ e ∷ []) ≡ next k s (after k s p es) e.call
+  pub after_push : (p : Plain) (es : List Entry) (e : Entry) → after k s p (es ++ e ∷ []) ≡ next k s (after k s p es) e.call
   after_push p [] e = refl
   after_push p (x ∷ es) e = after_push (next k s p x.call) es e
 
-  answered_push : (p : Plain) (es fs : List Entry) (e f : Entry) → Answered k s p es fs → asked f.call ≡ asked e.call → May k s (after k s p es) e.call (buffer_of f.call) f.reply → Answered k s p (es ++ e ∷ []) (fs ++ f ∷ [])
+  pub answered_push : (p : Plain) (es fs : List Entry) (e f : Entry) → Answered k s p es fs → asked f.call ≡ asked e.call → May k s (after k s p es) e.call (buffer_of f.call) f.reply → Answered k s p (es ++ e ∷ []) (fs ++ f ∷ [])
   answered_push p [] [] e f so hd m = (hd, m, tt)
   answered_push p [] (y ∷ fs) e f so hd m = absurd so
   answered_push p (x ∷ es) [] e f so hd m = absurd so

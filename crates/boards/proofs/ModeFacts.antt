@@ -28,7 +28,7 @@ pub record CipherFacts {C : Type 0} (c : Cipher C) : Type 0 where
 pub opening_ok : (n : ℕ) (bundle label : List ℕ) → opening_answer n bundle label ≡ Ok 0 → (length bundle ≡ 16 + 2 * n) × (length label ≤ label_limit)
 opening_ok n bundle label e = grind arith
 
-opening_accepts : (n : ℕ) (bundle label : List ℕ) → length bundle ≡ 16 + 2 * n → length label ≤ label_limit → opening_answer n bundle label ≡ Ok 0
+pub opening_accepts : (n : ℕ) (bundle label : List ℕ) → length bundle ≡ 16 + 2 * n → length label ≤ label_limit → opening_answer n bundle label ≡ Ok 0
 opening_accepts n bundle label h l = grind arith
 
 pub nonce_bytes : (n : ℕ) (label : List ℕ) → AllBytes label → AllBytes (context_of n label).nonce
@@ -43,7 +43,7 @@ message : {l h : ℕ} (r : List ℕ) → 16 ≤ l → StringOf l h r → Message
 message r le s = record { long = omega (arith, s.low); fit = s.fit }
 
 module _ {C : Type 0} (c : Cipher C) (L : CipherFacts c) where
-  inverse : (k : List ℕ) → Key c.key_length k → Inverse (c.forward k) (c.back k)
+  pub inverse : (k : List ℕ) → Key c.key_length k → Inverse (c.forward k) (c.back k)
   inverse k h = record {
     forth = record { ahead = λ b hb. L.ahead k b h hb; same = λ b hb. L.undone k b h hb };
     back = record { ahead = λ b hb. L.behind k b h hb; same = λ b hb. L.redone k b h hb };
@@ -73,7 +73,7 @@ module _ {C : Type 0} (c : Cipher C) (L : CipherFacts c) where
       }
 
   -- the bundle of keys that were made
-  bundle_long : (ready : Ready C) → length (bundle_in c ready) ≡ 16 + 2 * c.key_length
+  pub bundle_long : (ready : Ready C) → length (bundle_in c ready) ≡ 16 + 2 * c.key_length
   bundle_long ready =
       let p = c.key_of ready.keys.prf in
       let b = c.key_of ready.keys.blk in

@@ -31,7 +31,7 @@ pub on_alike : (f g : List ℕ → List ℕ) (x : Slot) → ((r : List ℕ) → 
 on_alike f g nothing h = refl
 on_alike f g (row r) h = ap (λ (q : List ℕ). row q) (h r refl)
 
-on_twice : (f g : List ℕ → List ℕ) (x : Slot) → ((r : List ℕ) → x ≡ row r → g (f r) ≡ r) → on_row g (on_row f x) ≡ x
+pub on_twice : (f g : List ℕ → List ℕ) (x : Slot) → ((r : List ℕ) → x ≡ row r → g (f r) ≡ r) → on_row g (on_row f x) ≡ x
 on_twice f g nothing h = refl
 on_twice f g (row r) h = ap (λ (q : List ℕ). row q) (h r refl)
 

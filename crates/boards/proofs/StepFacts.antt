@@ -59,31 +59,31 @@ module _ {C : Type 0} (c : Cipher C) (L : CipherFacts c) (bundle label : List �
       ∙ ap (λ (x : Context). opened_under c.forward c.back c.key_length bundle x.nonce x.associated q) (context_padded n label (opening_ok c.key_length bundle label adm).1)
 
   -- rows of a sound device, opened: nothing is cut
-  rows_opened_lem : (s : Shape) (held : List Slot) → Sound s held → through (keeping_length (opened_row c bundle label)) held ≡ through (opened_row c bundle label) held
+  pub rows_opened_lem : (s : Shape) (held : List Slot) → Sound s held → through (keeping_length (opened_row c bundle label)) held ≡ through (opened_row c bundle label) held
   rows_opened_lem s held sound =
       through_alike (keeping_length (opened_row c bundle label)) (opened_row c bundle label) held
       (λ n q lt e. let h = held_row s held n q sound lt e in as_is q (opened_row c bundle label n q) (long_open n q h) (U.opened_fit n q h))
 
-  board_opened : (ready : Ready C) → ReadyWith c ready bundle label → (s : Shape) (held : List Slot) → Sound s held → board_rows c ready held ≡ through (opened_row c bundle label) held
+  pub board_opened : (ready : Ready C) → ReadyWith c ready bundle label → (s : Shape) (held : List Slot) → Sound s held → board_rows c ready held ≡ through (opened_row c bundle label) held
   board_opened ready w s held sound =
       through_alike (keeping_length (opened_by c ready)) (keeping_length (opened_row c bundle label)) held (λ n q lt e. ap (as_long_as q) (opens_as ready w n q))
       ∙ rows_opened_lem s held sound
 
   -- sealed rows open to what they were
-  opened_back : (s : Shape) (rows : List Slot) → Sound s rows → through (opened_row c bundle label) (through (sealed_row c bundle label) rows) ≡ rows
+  pub opened_back : (s : Shape) (rows : List Slot) → Sound s rows → through (opened_row c bundle label) (through (sealed_row c bundle label) rows) ≡ rows
   opened_back s rows sound = through_back (sealed_row c bundle label) (opened_row c bundle label) rows (λ n r lt e. S.opens n r (held_row s rows n r sound lt e))
 
-  sealed_back : (s : Shape) (held : List Slot) → Sound s held → through (sealed_row c bundle label) (through (opened_row c bundle label) held) ≡ held
+  pub sealed_back : (s : Shape) (held : List Slot) → Sound s held → through (sealed_row c bundle label) (through (opened_row c bundle label) held) ≡ held
   sealed_back s held sound = through_back (opened_row c bundle label) (sealed_row c bundle label) held (λ n r lt e. U.seals n r (held_row s held n r sound lt e))
 
-  opened_sound : (s : Shape) (held : List Slot) → Sound s held → Sound s (through (opened_row c bundle label) held)
+  pub opened_sound : (s : Shape) (held : List Slot) → Sound s held → Sound s (through (opened_row c bundle label) held)
   opened_sound s held sound = subst (Sound s) (rows_opened_lem s held sound) (sound_through s held (opened_row c bundle label) sound)
 
   -- an open board shows the plain rows
-  board_shows : (ready : Ready C) → ReadyWith c ready bundle label → (s : Shape) (held rows : List Slot) → Sound s held → Sound s rows → held ≡ through (sealed_row c bundle label) rows → board_rows c ready held ≡ rows
+  pub board_shows : (ready : Ready C) → ReadyWith c ready bundle label → (s : Shape) (held rows : List Slot) → Sound s held → Sound s rows → held ≡ through (sealed_row c bundle label) rows → board_rows c ready held ≡ rows
   board_shows ready w s held rows sound sound' e = board_opened ready w s held sound ∙ ap (through (opened_row c bundle label)) e ∙ opened_back s rows sound'
 
-  board_holds : (ready : Ready C) → ReadyWith c ready bundle label → (s : Shape) (held rows : List Slot) → Sound s held → board_rows c ready held ≡ rows → held ≡ through (sealed_row c bundle label) rows
+  pub board_holds : (ready : Ready C) → ReadyWith c ready bundle label → (s : Shape) (held rows : List Slot) → Sound s held → board_rows c ready held ≡ rows → held ≡ through (sealed_row c bundle label) rows
   board_holds ready w s held rows sound e = sym (sealed_back s held sound) ∙ ap (through (sealed_row c bundle label)) (sym (board_opened ready w s held sound) ∙ e)
 
 -- the rows of a board are the opened forms: nothing is cut
@@ -130,7 +130,7 @@ module _ {C D : Type 0} (c : Cipher C) (d : Device D) (L : CipherFacts c) (start
         )
 
   -- an accepted opening
-  opened_stands : (p : Plain) (device : D) (ready : Ready C) (bundle label : List ℕ) → Admitted (mode_kind c) bundle label → ReadyWith c ready bundle label → d.shape device ≡ s → Stands (mode_kind c) start s (d.held device) p →
+  pub opened_stands : (p : Plain) (device : D) (ready : Ready C) (bundle label : List ℕ) → Admitted (mode_kind c) bundle label → ReadyWith c ready bundle label → d.shape device ≡ s → Stands (mode_kind c) start s (d.held device) p →
       Stands (mode_kind c) start s (d.held device) (record { is_open = true; under = Some (bundle, label); rows = rows_opened (mode_kind c) p bundle label })
   opened_stands p device ready bundle label adm w shape S = go (is_under p.under bundle label) refl where
     fb : AllBytes bundle

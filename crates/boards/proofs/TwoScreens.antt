@@ -46,7 +46,7 @@ module _ (k : Kind) (s : Shape) (bundle label : List ℕ) where
     go true m = u
     go false m = shut call m by
 
-  under_after : (p : Plain) (es fs : List Entry) → Answered k s p es fs → OpeningsUsed bundle label fs → UnderIs bundle label p.under → UnderIs bundle label (after k s p es).under
+  pub under_after : (p : Plain) (es fs : List Entry) → Answered k s p es fs → OpeningsUsed bundle label fs → UnderIs bundle label p.under → UnderIs bundle label (after k s p es).under
   under_after p [] [] so by u = u
   under_after p [] (f ∷ fs) so by u = absurd so
   under_after p (e ∷ es) [] so by u = absurd so
@@ -64,7 +64,7 @@ module _ {C D : Type 0} (k : Kind) (d : Device D) (device : D) (calls done : Lis
   none_there None rows n real e = ap (λ (x : List Slot). get_or x n nothing) real ∙ empty n
   none_there (Some u) rows n real e = cc
 
-  row_none : (plain_after k d device calls).under ≡ None → (n : ℕ) → plain_row k d device calls n ≡ nothing
+  pub row_none : (plain_after k d device calls).under ≡ None → (n : ℕ) → plain_row k d device calls n ≡ nothing
   row_none e n = none_there (plain_after k d device calls).under (plain_after k d device calls).rows n ran.bundle_and_label_were_accepted e
 
   accepted_there : (o : Option (List ℕ × List ℕ)) (rows : List Slot) → AcceptedOrUnopened k (d.held device) rows o → o ≡ Some (bundle, label) → AllBytes bundle × AllBytes label × Admitted k bundle label
@@ -81,13 +81,13 @@ module _ {C D : Type 0} (k : Kind) (d : Device D) (device : D) (calls done : Lis
       (λ some. accepted_there (plain_after k d device calls).under (plain_after k d device calls).rows ran.bundle_and_label_were_accepted some)
       under
 
-  sealed_by_lem : (n : ℕ) → held_at d end n ≡ on_row (k.seal bundle label n) (plain_row k d device calls n)
+  pub sealed_by_lem : (n : ℕ) → held_at d end n ≡ on_row (k.seal bundle label n) (plain_row k d device calls n)
   sealed_by_lem n = ran.slots_hold_the_plain_rows_sealed n ∙ ⊎_elim
       (λ none. let h = row_none none n in ap (on_row (seal_under k (plain_after k d device calls).under n)) h ∙ ap (on_row (k.seal bundle label n)) (sym h))
       (λ some. ap (λ (o : Option (List ℕ × List ℕ)). on_row (seal_under k o n) (plain_row k d device calls n)) some)
       under
 
-  row_of : (l : Kind) → l.least ≤ 16 → 1000 ≤ l.longest → (n : ℕ) (r : List ℕ) → plain_row k d device calls n ≡ row r → RowOf l r
+  pub row_of : (l : Kind) → l.least ≤ 16 → 1000 ≤ l.longest → (n : ℕ) (r : List ℕ) → plain_row k d device calls n ≡ row r → RowOf l r
   row_of l lo hi n r e = ⊎_elim
       (λ lt. let h = held_row (k.shape_over (d.shape device)) (plain_after k d device calls).rows n r ran.plain_rows_are_within_the_limits lt e in
       record { low = omega (arith, h.low); high = omega (arith, h.high); fit = h.fit })
@@ -95,7 +95,7 @@ module _ {C D : Type 0} (k : Kind) (d : Device D) (device : D) (calls done : Lis
       (cases_lt n (length (plain_after k d device calls).rows))
 
 -- every string is the sealed form of one row
-sealed_once : (k : Kind) (bundle label : List ℕ) (M : ℕ) → M ≤ k.longest + k.extra → OpensSealed k bundle label → SealsOpened k bundle label → (n : ℕ) (q : List ℕ) → StringOf (k.least + k.extra) M q → SealedOnce k bundle label n q
+pub sealed_once : (k : Kind) (bundle label : List ℕ) (M : ℕ) → M ≤ k.longest + k.extra → OpensSealed k bundle label → SealsOpened k bundle label → (n : ℕ) (q : List ℕ) → StringOf (k.least + k.extra) M q → SealedOnce k bundle label n q
 sealed_once k bundle label M le S U n q h =
     let is : SealedOf k q = record { low = h.low; high = omega (arith, h.high); fit = h.fit } in
     let l = U.opened_long n q is in (

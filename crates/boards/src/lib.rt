@@ -12,4 +12,4 @@ pub use board::Board;
 pub use calls::{Call, Entry, Reply};
 pub use label::LABEL_LIMIT;
 pub use ready::Ready;
-pub use runs::{Screen, run, run_two};
+pub use runs::{Screen, run, run_on_board, run_two};

@@ -1,7 +1,7 @@
 // Lists of calls on screens.
-ghost use Rattle.std.specs.Prelude.{ℕ, List};
+ghost use Rattle.std.specs.Prelude.{◌≡◌, ℕ, List};
 ghost use Rattle.boards.specs.Modes.{mode_kind, TurnAlike};
-ghost use Rattle.boards.specs.Screens.{Stepped};
+ghost use Rattle.boards.specs.Screens.{behind, Stepped};
 ghost use Rattle.boards.specs.Promise.{Ran, Shared, Agreement};
 
 use crate::acts::act;
@@ -76,4 +76,15 @@ pub fn run_two<C: BlockCipher + Drop, D: SlotDevice, E: BlockCipher + Drop, F: S
     let a = run(one, first);
     let b = run(two, second);
     (a, b)
+}
+
+// Runs a list on a screen whose device is itself a board, as boards pile.
+pub fn run_on_board<C: BlockCipher + Drop, B: BlockCipher, D: SlotDevice>(
+    lower: Board<B, D>,
+    list: &mut [Entry],
+) -> Screen<C, Board<B, D>>
+    ensures kept { ((behind result).ready ≡ lower.ready) × (D.SlotDevice.fixed (behind result).device ≡ D.SlotDevice.fixed lower.device) }
+    ensures ran { Ran C.BlockCipher (mode_kind C.BlockCipher) ⟦<Board<B, D> as SlotDevice>⟧ lower list.old list.new result }
+{
+    run(lower, list)
 }

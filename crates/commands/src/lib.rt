@@ -4,8 +4,6 @@ mod answers;
 mod calls;
 mod device;
 mod layout;
-#[cfg(test)]
-mod tests;
 
 pub use answers::answer;
 pub use calls::call;

@@ -5,6 +5,8 @@
 pub const ROW: usize = 16;
 
 #[cfg(test)]
+mod calls;
+#[cfg(test)]
 mod chains;
 #[cfg(test)]
 mod trays;

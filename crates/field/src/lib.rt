@@ -1,6 +1,6 @@
 #![tactic(auto)]
 // The field of 2^128 elements, each a number whose bit i is the coefficient of z^i.
-ghost use Rattle.std.specs.Prelude.{◌≡◌};
+ghost use Rattle.std.specs.Prelude.{◌≡◌, length};
 ghost use Rattle.base.specs.Numbers.{number};
 ghost use Rattle.field.specs.Field.{field_product, times_z, FieldLaws};
 
@@ -41,10 +41,11 @@ pub fn product(a: u128, b: u128) -> u128
 }
 
 // The element that a block stands for, its lowest byte first.
-pub fn element(block: &[u8; 16]) -> u128
+pub fn element(block: &[u8]) -> u128
+    requires { length block.now ≡ 16 }
     ensures { result ≡ number block.now }
 {
-    u128::from_le_bytes(*block)
+    u128::from_le_bytes(*block.as_array().unwrap())
 }
 
 // The laws of the field are what it promises; its answer says nothing more.

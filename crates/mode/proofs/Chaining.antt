@@ -13,6 +13,14 @@ use Rattle.mode.specs.Cmac.{chained, absorbed, last_masked, blocks_before, cmac_
 use Rattle.mode.specs.Sealing.{length_group, binding_input}
 
 module _ (f : List ℕ → List ℕ) where
+  pub chained_none : (s m : List ℕ) → chained f s 0 m ≡ s
+  unfolding chained
+  chained_none s m = refl
+
+  pub chained_more : (s : List ℕ) (n : ℕ) (m : List ℕ) → chained f s (n + 1) m ≡ f (xor_front (chained f s n m) (block_at n m))
+  unfolding chained
+  chained_more s n m = let e : n + 1 ≡ suc n = omega arith in ap (λ (k : ℕ). chained f s k m) e
+
   chained_same : (s : List ℕ) (n : ℕ) (m w : List ℕ) → ((i : ℕ) → i < n → block_at i m ≡ block_at i w) → chained f s n m ≡ chained f s n w
   unfolding chained
   chained_same s zero m w h = refl
@@ -113,7 +121,7 @@ module _ (f : List ℕ → List ℕ) where
 
 -- ---- the lengths, four bytes each
 
-four : (w : ℕ) (x : List ℕ) → x ≡ (w % 256) ∷ (w / 256 % 256) ∷ (w / 65536 % 256) ∷ (w / 16777216 % 256) ∷ [] → x ≡ bytes 4 w
+pub four : (w : ℕ) (x : List ℕ) → x ≡ (w % 256) ∷ (w / 256 % 256) ∷ (w / 65536 % 256) ∷ (w / 16777216 % 256) ∷ [] → x ≡ bytes 4 w
 unfolding bytes
 four w x e = e ∙ simp div-div-eq-div-mul
 

@@ -35,6 +35,13 @@ fn count(name: &str) -> Result<usize, Fault>
     }
 }
 
+// The line that answers a device which was set out or attached: an accepted call, for which no other number is named.
+fn accepted(heap: Global) -> Result<String, Fault>
+    ensures { IfOk result (λ line. string_bytes line ≡ codes "ok 0") }
+{
+    Ok(String::from_str(heap, "ok 0")?)
+}
+
 impl Kept {
     // The line that shows the memory.
     fn show(&self, heap: Global) -> Result<String, Fault>
@@ -89,15 +96,19 @@ impl Session {
     }
 
     // Sets out a device, in place of the one that there was.
-    fn set_out(&mut self, heap: Global, layout: &[&str]) -> Result<String, Fault> {
+    fn set_out(&mut self, heap: Global, layout: &[&str]) -> Result<String, Fault>
+        ensures { IfOk result (λ line. string_bytes line ≡ codes "ok 0") }
+    {
         let layout = Layout::parse(layout, WRONG_COUNT)?;
         let memory = layout.set_out(heap)?;
         self.kept = Some(Kept { layout, memory });
-        Ok(String::from_str(heap, "ok 0")?)
+        accepted(heap)
     }
 
     // Takes a device in given memory, in place of the one that there was.
-    fn attach(&mut self, heap: Global, device: &[&str]) -> Result<String, Fault> {
+    fn attach(&mut self, heap: Global, device: &[&str]) -> Result<String, Fault>
+        ensures { IfOk result (λ line. string_bytes line ≡ codes "ok 0") }
+    {
         // a kind alone has neither dimensions nor memory
         let (layout, memory) = match device {
             [layout @ .., memory] if device.len() > 1 => (layout, *memory),
@@ -107,7 +118,7 @@ impl Session {
         let memory = decode(heap, memory)?;
         Device::check(memory.as_slice(), layout)?;
         self.kept = Some(Kept { layout, memory });
-        Ok(String::from_str(heap, "ok 0")?)
+        accepted(heap)
     }
 
     // A call, or the question for the memory, on the device that there is.

@@ -21,7 +21,7 @@ row_formed m cell low high =
     rw (ne_eqb (cell_length cell) 0 (λ e. omega arith), le-leb 16 (cell_length cell) low, le-leb (cell_length cell) m high) refl
 
 -- one cell that is not well formed
-not_formed : (s m : ℕ) (memory : List ℕ) (i : ℕ) → i < s → cell_formed m (cell_at m memory i) ≡ false → cells_formed s m memory ≡ false
+pub not_formed : (s m : ℕ) (memory : List ℕ) (i : ℕ) → i < s → cell_formed m (cell_at m memory i) ≡ false → cells_formed s m memory ≡ false
 not_formed s m memory i h e = elim (cases_Bool (cells_formed s m memory)) [
   | inl t ↦ absurd (both_ways (cell_formed m (cell_at m memory i)) e (formed_at s m memory t i h))
   | inr f ↦ f

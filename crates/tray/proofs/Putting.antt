@@ -137,7 +137,7 @@ module _ (s m : ℕ) (memory : List ℕ) (d : TrayDimensions s m (length memory)
     held = new_held;
   }
 
-  put : (after : List ℕ) → after ≡ put_cell m memory i (cell_of m x) → Put s m memory i x after
+  pub put : (after : List ℕ) → after ≡ put_cell m memory i (cell_of m x) → Put s m memory i x after
   unfolding new
   put after e = subst (λ (t : List ℕ). Put s m memory i x t) (sym e) new_put
 

@@ -52,11 +52,14 @@ fn fill_cell(cell: &mut [u8], row: Option<&[u8]>)
     requires fits { length (bytes_in (slot_with row)) + 2 ≤ length cell.old }
     ensures { cell.new ≡ cell_of (length cell.old - 2) (slot_with row.entry) }
 {
-    wipe(cell);
-    if let Some(row) = row {
-        let n = row.len();
-        cell[..2].copy_from_slice(&(n as u16).to_le_bytes());
-        cell[2..2 + n].copy_from_slice(row);
+    match row {
+        None => wipe(cell),
+        Some(row) => {
+            let n = row.len();
+            cell[..2].copy_from_slice(&(n as u16).to_le_bytes());
+            cell[2..2 + n].copy_from_slice(row);
+            wipe(&mut cell[2 + n..]);
+        }
     }
 }
 

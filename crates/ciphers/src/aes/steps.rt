@@ -51,6 +51,7 @@ fn row(factors: [u8; 4], column: [u8; 4]) -> u8
 
 // A column times the matrix with this first row, where each row after it is the one before turned right by one place.
 #[inline(always)]
+#[tactic(auto, unfolding(crate::specs::AesSteps::mixed_by))]
 fn mix_column(factors: [u8; 4], column: [u8; 4]) -> [u8; 4]
     ensures { result ≡ mixed_by factors column }
 {
@@ -63,20 +64,18 @@ fn mix_column(factors: [u8; 4], column: [u8; 4]) -> [u8; 4]
     ]
 }
 
-// That matrix times each column of a block. The four are spelled out: the factors do not reach a closure of `array::from_fn`
-// as constants, which doubled the time.
+// That matrix times each column of a block. A loop that writes each column in its place: joined from four columns spelled out, a
+// block back took twice as long; made byte by byte by a closure, a block ahead did.
 #[inline(always)]
 fn mix(factors: [u8; 4], block: [u8; 16]) -> [u8; 16]
     ensures { result ≡ columnwise (mixed_by factors) 4 block }
 {
     let (columns, _) = block.as_chunks::<4>();
-    let mixed = [
-        mix_column(factors, columns[0]),
-        mix_column(factors, columns[1]),
-        mix_column(factors, columns[2]),
-        mix_column(factors, columns[3]),
-    ];
-    *mixed.as_flattened().as_array().unwrap()
+    let mut mixed = [0u8; 16];
+    for i in 0..4 {
+        mixed[4 * i..4 * i + 4].copy_from_slice(&mix_column(factors, columns[i]));
+    }
+    mixed
 }
 
 // MixColumns: each column mixed.

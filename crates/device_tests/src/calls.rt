@@ -1,6 +1,6 @@
 // Calls, layouts and answers on real memory, which no contract promises.
-use crate::{Device, Layout, answer, call};
 use boards::act;
+use commands::{Device, Layout, answer, call};
 use std::alloc::Global;
 use std::test::Fail;
 use text::words_of;
