@@ -12,6 +12,6 @@ returns c =
     let middle : List (List ℕ) = take (length ks - 1 - 1) (drop 1 ks) in
     c.last_round.ensures
     ∙ ap (λ (x : List ℕ). add_round_key (shift_rows (sub_bytes x)) (get_or ks (length ks - 1) []))
-    (fold_from_yields_List _ round c.with_key-start.result c.fold-mixed.result c.fold-mixed.ensures.ran (YieldsList-from_slice middle c.iter.ensures.rest) (λ a x b q k. search rules)
+    (fold_from_yields_List _ round c.with_key-start.result c.fold-mixed.result c.fold-mixed.ensures.ran (YieldsList-from_slice middle (search rules)) (λ a x b q k. search rules)
     ∙ ap (λ (s : List ℕ). fold round s middle) c.with_key-start.ensures)
     ∙ cipher_folded c.args.schedule.now ks c.as_chunks.ensures.front c.as_chunks.ensures.front_len c.args.block c.requires
